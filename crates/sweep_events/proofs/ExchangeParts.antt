@@ -7,7 +7,7 @@ use Rattle.std.proofs.lemmas.Bool.{cases_lt, cases_Bool}
 use Rattle.std.proofs.lemmas.List.{take-append-drop, get_or-drop, drop-drop, length-take}
 use Rattle.std.proofs.lemmas.Bool.Decides.{nat_tests}
 use Rattle.std.proofs.lemmas.Cmp.{nat_cmp_total}
-use Rattle.integers.proofs.Decisions.{lt_out, ge_out, ge_in, clash}
+use Rattle.integers.proofs.Decisions.{lt_out, ge_out, clash}
 use Rattle.integers.proofs.Tests.{nat_exact}
 use Rattle.exact_plane.specs.Line.{side_of, IsOn}
 use Rattle.exact_plane.specs.Point.{Point}
@@ -26,21 +26,16 @@ use Rattle.sweep_events.specs.Sweep.{IsEventAt}
 use Rattle.sweep_events.specs.Exchange.{IsSplit, IsExchange}
 use Rattle.sweep_status.proofs.Parts.{within_take, within_drop}
 use Rattle.sweep_events.proofs.EventSteps.{in_order, not_both}
+use Rattle.sweep_events.proofs.StatusCuts.{below_upto}
 
 module _ (pieces : List Span) (q : Point) (xs : List ℕ) (spans : AreSpans pieces) (waiting : IsWaiting (piece_at pieces) (length pieces) q xs)
     (lo hi : ℕ) (lo_in : lo ≤ length xs) (hi_in : hi ≤ length xs)
     (lower_cut : IsPartitionPoint (λ i. is_below pieces q i ≡ true) (λ i. is_below pieces q i ≡ false) xs lo)
     (upper_cut : IsPartitionPoint (λ i. is_upto pieces q i ≡ true) (λ i. is_upto pieces q i ≡ false) xs hi) where
-  below_upto : (i : ℕ) → is_below pieces q i ≡ true → is_upto pieces q i ≡ true
-  below_upto i h = ap not (ge_in (side_of (piece_at pieces i).line q) (pos 0) (weak (side_of (piece_at pieces i).line q) (lt_out (pos 0) (side_of (piece_at pieces i).line q) h)))
-    where
-      weak : (z : ℤ) → pos 0 <ℤ z → pos 0 ≤ℤ z
-      weak z h = omega (arith, ints)
-
   -- the first cut comes first
   pub in_turn : lo ≤ hi
   in_turn = elim (cases_lt hi lo) [
-    | inl h ↦ absurd (clash (is_upto pieces q (get_or xs hi 0)) (below_upto (get_or xs hi 0) (lower_cut.0 hi 0 (omega arith) h)) (upper_cut.1 hi 0 (omega arith) (omega (arith, h, lo_in))))
+    | inl h ↦ absurd (clash (is_upto pieces q (get_or xs hi 0)) (below_upto pieces q (get_or xs hi 0) (lower_cut.0 hi 0 (omega arith) h)) (upper_cut.1 hi 0 (omega arith) (omega (arith, h, lo_in))))
     | inr h ↦ h
   ]
 

@@ -1,9 +1,11 @@
 pub mod AfterEvent
+pub mod BegunPieces
 pub mod EventSteps
 pub mod EventsAndVertices
 pub mod EventsListed
 pub mod ExchangeParts
 pub mod Exchanged
+pub mod FirstPoint
 pub mod FirstQueue
 pub mod FrontOrder
 pub mod Neighbours

@@ -1,16 +1,12 @@
 -- What a call for the next event makes of a sweep, by what its calls told.
-use Rattle.std.proofs.Common.{◌≡◌, ℕ, ◌<◌, ◌-◌, refl, ap, sym, ◌∙◌, subst, arith, inl, inr, true, false, List, [], ◌∷◌, length, get_or, Ordering, Less, Equal, Greater}
-use Rattle.std.specs.List.{splice, All, count_by}
-use Rattle.std.specs.Prelude.{◌⊎◌, Option, None, Some, IsSome, IfSome, slice_get}
-use Rattle.std.specs.Ordering.{is_le, is_gt, is_lt}
-use Rattle.std.proofs.lemmas.List.Elements.{All-contains}
-use Rattle.std.proofs.lemmas.Option.{get_or_from_slice_get}
-use Rattle.std.specs.BTreeMap.Range.{IsLeBy, IsLtBy}
+use Rattle.std.proofs.Common.{◌≡◌, ℕ, ◌<◌, ◌+◌, ◌-◌, refl, ap, sym, subst, arith, inl, inr, true, List, length, get_or, Ordering, Less, Equal, Greater}
+use Rattle.std.specs.List.{splice, count_by}
+use Rattle.std.specs.Prelude.{◌⊎◌, Option, None, Some}
+use Rattle.std.specs.Ordering.{is_lt}
 use Rattle.exact_plane.specs.Point.{Point, IsPoint}
 use Rattle.exact_plane.specs.PointOrder.{point_cmp}
 use Rattle.exact_plane.specs.PointOrderLaws.{point_cmp_total}
-use Rattle.exact_plane.specs.Span.{Span, IsAtMost}
-use Rattle.exact_plane.proofs.Orders.{less_at_most, at_most_itself}
+use Rattle.exact_plane.specs.Span.{Span}
 use Rattle.plane_graphs.specs.Ascending.{Member}
 use Rattle.plane_graphs.proofs.Ascending.{from_member}
 use Rattle.plane_graphs.proofs.Sorting.{member_at}
@@ -22,40 +18,15 @@ use Rattle.sweep_events.specs.Events.{IsEvent, IsBeyond}
 use Rattle.sweep_events.specs.Places.{piece_at}
 use Rattle.sweep_events.specs.Seams.{MeetAtSeam, IsGrown, AreThere}
 use Rattle.sweep_events.specs.Status.{IsWaiting, IsStatus}
-use Rattle.sweep_events.specs.Sweep.{Swept, IsSweep, IsNextOf, IsOver}
+use Rattle.sweep_events.specs.Sweep.{Swept, IsSweep, IsNextOf}
 use Rattle.sweep_events.specs.Exchange.{IsExchange}
+use Rattle.sweep_events.specs.Begun.{queue_of, IsPassed, AreBegun}
+use Rattle.sweep_events.specs.Starts.{AreStarts}
+use Rattle.sweep_events.specs.declared.places.Start.{Start}
 use Rattle.sweep_events.proofs.AfterEvent.{status_after}
+use Rattle.sweep_events.proofs.BegunPieces.{more, kept_after, there_after, new_after}
 use Rattle.sweep_events.proofs.Queue.{event_point}
-use Rattle.sweep_events.proofs.EventSteps.{not_both}
-use Rattle.sweep_events.proofs.Exchanged.{waiting_of, moved, moved_sweep, next_is, is_over}
-
-all_at : {X : Type 0} (P : X → Type 0) (xs : List X) → All P xs → (x : X) → Member x xs → P x
-all_at P xs h x m = All-contains P xs x h (from_member xs x m)
-
-pub head_member : (keys : List Point) (q : Point) → slice_get keys 0 ≡ Some q → 0 < length keys → Member q keys
-head_member keys q e h = subst (λ (t : Point). Member t keys) (get_or_from_slice_get keys 0 q q e) (member_at keys 0 q h)
-
-upto : (p q : Point) → is_gt (point_cmp p q) ≡ false → IsAtMost p q
-upto p q h = at (point_cmp p q) h
-  where
-    at : (o : Ordering) → is_gt o ≡ false → is_le o ≡ true
-    at Less h = refl
-    at Equal h = refl
-    at Greater h = cc
-
--- the queue's first point is the next event
-pub first_is_next : (s : Swept) (keys : List Point) → IsSweep s keys → (q : Point) → slice_get keys 0 ≡ Some q → 0 < length keys → All (IsLeBy point_cmp q) keys → IsNextOf s q
-first_is_next s keys h q e n l = next_is s keys h q (head_member keys q e n) (λ r m. upto q r (all_at (IsLeBy point_cmp q) keys l r m))
-
-pub none_over : (s now : Swept) (keys : List Point) → IsSweep s keys → s ≡ now → (0 < length keys → false ≡ true) → IsOver now
-none_over s now keys h e n = subst (λ (t : Swept). IsOver t) e (is_over s keys h (empty keys n))
-  where
-    empty : (xs : List Point) → (0 < length xs → false ≡ true) → xs ≡ []
-    empty [] n = refl
-    empty (x ∷ xs) n = absurd (no (n (omega arith)))
-      where
-        no : false ≡ true → ⊥
-        no e = cc
+use Rattle.sweep_events.proofs.Exchanged.{waiting_of, moved, moved_sweep}
 
 pub next_point : (s : Swept) (keys : List Point) → IsSweep s keys → (q : Point) → IsNextOf s q → IsPoint q
 next_point s keys h q next = event_point (piece_at s.pieces) (length s.pieces) s.pins h.spans h.pinned q next.event
@@ -116,49 +87,20 @@ module _ (s : Swept) (keys : List Point) (h : IsSweep s keys) (q : Point) (next 
       };
     }
 
-    module _ (in_keys : Member q keys) (first_there : AreThere (MeetAtSeam s.pieces after first) q later) (second_there : AreThere (MeetAtSeam s.pieces after second) q later)
-        (k : Point) (rest : List Point) (popped : later ≡ k ∷ rest) (above : All (IsLtBy point_cmp k) rest) where
-      not_before : (r : Point) → Member r later → IsAtMost q r
-      not_before r m = elim (grown.comes r m) [
-        | inl a ↦ (let w = h.queued.sound r a in next.first r w.0 w.1)
-        | inr b ↦ less_at_most q r b.1
-      ]
+  -- and after the event, by what was put into its queue and what was passed
+  module _ (starts : List Start) (ok : AreStarts s.pieces starts) (old : List Point) (n : ℕ) (queue_is : keys ≡ queue_of old starts n) (begun : AreBegun s.last starts n) where
+    pub h' : IsSweep s (queue_of old starts n)
+    h' = subst (λ (xs : List Point). IsSweep s xs) queue_is h
 
-      head_is : k ≡ q
-      head_is = elim (subst (λ (xs : List Point). Member q xs) popped (grown.stays q in_keys)) [
-        | inl e ↦ sym e
-        | inr m ↦ absurd (not_both k q (all_at (IsLtBy point_cmp k) rest above q m) (not_before k (subst (λ (xs : List Point). Member k xs) (sym popped) (inl refl))))
-      ]
-
-      in_rest : (r : Point) → Member r later → point_cmp q r ≡ Less → Member r rest
-      in_rest r m b = elim (subst (λ (xs : List Point). Member r xs) popped m) [
-        | inl e ↦ absurd (not_both q r b (subst (λ (t : Point). IsAtMost t q) (sym (e ∙ head_is)) (at_most_itself q)))
-        | inr n ↦ n
-      ]
-
-      rest_new : (r : Point) → Member r rest → IsEvent (piece_at s.pieces) (length s.pieces) s.pins r × (point_cmp q r ≡ Less)
-      rest_new r m =
-          let b : point_cmp q r ≡ Less = subst (λ (t : Point). point_cmp t r ≡ Less) head_is (all_at (IsLtBy point_cmp k) rest above r m) in
-          (elim (grown.comes r (subst (λ (xs : List Point). Member r xs) (sym popped) (inr m))) [ inl a ↦ (h.queued.sound r a).0 | inr c ↦ seams_event r c.0 ], b)
-
-      -- the sweep after the event
-      pub moved_on : IsSweep (moved s q after) rest
-      moved_on =
-          moved_sweep s keys h q next after first second exchange rest
-          (λ r m b. in_rest r (grown.stays r m) b) (λ r m b. in_rest r (first_there r m b) b) (λ r m b. in_rest r (second_there r m b) b) rest_new
-
-  -- the same, of a queue whose first point was taken
-  pub popped_on : (later : List Point) → IsGrown AtSeams q keys later → Member q keys → AreThere (MeetAtSeam s.pieces after first) q later → AreThere (MeetAtSeam s.pieces after second) q later →
-      (o : Option Point) (rest : List Point) → (0 < length later → IsSome o) → IfSome o (λ k. later ≡ k ∷ rest) → IfSome o (λ k. All (IsLtBy point_cmp k) rest) → IsSweep (moved s q after) rest
-  popped_on later grown m f g None rest v e a = absurd (no (v (some_in later (grown.stays q m))))
-    where
-      no : false ≡ true → ⊥
-      no e = cc
-
-      some_in : (xs : List Point) → Member q xs → 0 < length xs
-      some_in [] m = absurd m
-      some_in (x ∷ xs) m = omega arith
-  popped_on later grown m f g (Some k) rest v e a = moved_on later grown m f g k rest e a
+    pub passed_on : (later passed : List Point) → IsGrown AtSeams q old later → IsPassed q later passed → AreThere (MeetAtSeam s.pieces after first) q later → AreThere (MeetAtSeam s.pieces after second) q later →
+        (m : ℕ) → m ≡ n + more s starts ok old n h' begun q next → IsSweep (moved s q after) (queue_of passed starts m)
+    passed_on later passed grown gone f g m e =
+        subst (λ k. IsSweep (moved s q after) (queue_of passed starts k)) (sym e)
+        (moved_sweep s (queue_of old starts n) h' q next after first second exchange (queue_of passed starts (n + more s starts ok old n h' begun q next))
+        (kept_after s starts ok old n h' begun q next AtSeams later passed grown gone)
+        (there_after s starts ok old n h' begun q next AtSeams later passed grown gone (MeetAtSeam s.pieces after first) f)
+        (there_after s starts ok old n h' begun q next AtSeams later passed grown gone (MeetAtSeam s.pieces after second) g)
+        (new_after s starts ok old n h' begun q next AtSeams later passed grown gone seams_event))
 
 -- after an event fewer are to come
 pub left_falls : (s now : Swept) (keys : List Point) → IsSweep s keys → s ≡ now → (q : Point) → IsNextOf s q → (new : Swept) → new.pieces ≡ s.pieces → new.pins ≡ s.pins → new.last ≡ Some q → events_left new < events_left now

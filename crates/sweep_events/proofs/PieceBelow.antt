@@ -1,42 +1,52 @@
 -- The piece directly below the last event is the last of the status that passes below it.
-use Rattle.std.proofs.Common.{◌≡◌, ℕ, ◌-◌, ◌<◌, ◌≤◌, true, arith, sym, ap, ◌∙◌, subst, inl, inr, List, length, get_or, ℤ, pos, ◌<ℤ◌, ◌≤ℤ◌}
+use Rattle.std.proofs.Common.{◌≡◌, ℕ, ◌-◌, ◌<◌, ◌≤◌, true, false, refl, arith, sym, ap, ◌∙◌, subst, inl, inr, List, ◌++◌, length, length-append, get_or, ℤ, pos, ◌<ℤ◌, ◌≤ℤ◌, Less}
 use Rattle.std.specs.Prelude.{slice_index_or, Option, None, Some}
-use Rattle.std.specs.Ordering.{ordering_then, int_cmp, nat_cmp}
-use Rattle.std.specs.declared.cmp.Ordering.TheVariants.{Less}
-use Rattle.std.specs.List.Sorted.{IsPartitionedBy}
-use Rattle.std.proofs.lemmas.Int.{ints, by_lt_z}
+use Rattle.std.proofs.lemmas.Int.{ints}
 use Rattle.std.proofs.lemmas.Bool.{false≢true, cases_lt}
-use Rattle.integers.proofs.Decisions.{lt_out, lt_in}
-use Rattle.exact_plane.specs.Line.{side_of}
+use Rattle.integers.proofs.Decisions.{lt_out, lt_in, ge_in}
+use Rattle.exact_plane.specs.Line.{side_of, IsOn}
 use Rattle.exact_plane.specs.Point.{Point}
 use Rattle.exact_plane.specs.Span.{Span}
 use Rattle.plane_graphs.specs.Ascending.{Member}
 use Rattle.plane_graphs.proofs.Ascending.{from_member}
-use Rattle.plane_graphs.proofs.Sorting.{parted, rises, member_at, any_default}
+use Rattle.plane_graphs.proofs.Lists.{in_either}
+use Rattle.plane_graphs.proofs.Sorting.{rises, member_at, any_default}
 use Rattle.sweep_events.specs.Below.{PassesBelow, IsPieceBelow, IsPieceBelowAfter, IsBelowLast}
 use Rattle.sweep_events.specs.Events.{IsStatusAfter}
-use Rattle.sweep_events.specs.Front.{level_cmp, lean}
+use Rattle.sweep_events.specs.Exchange.{IsExchange}
 use Rattle.sweep_events.specs.Places.{piece_at, is_below, IsCutBelow, AreSpans}
 use Rattle.sweep_events.specs.Status.{IsStatus, status_cmp}
-use Rattle.sweep_events.specs.Sweep.{Swept, HasStatus}
-use Rattle.sweep_events.proofs.FrontOrder.{upper_side, then_assoc}
+use Rattle.sweep_events.specs.Sweep.{Swept, HasStatus, IsCutAfter}
+use Rattle.sweep_events.proofs.StatusCuts.{parted_by}
 
-module _ (pieces : List Span) (q : Point) (status : List ℕ) (spans : AreSpans pieces) (s : IsStatus (piece_at pieces) (length pieces) q status) where
-  within : (i : ℕ) → Member i status → i < length pieces
-  within i m = ((s.met i).0 m).0
+-- the pieces that pass below an event stand first in the status after it
+pub cut_after : (pieces : List Span) → AreSpans pieces → (q : Point) (before after : List ℕ) (first second : ℕ) → IsExchange pieces q before after first second → (first ≤ length after) × IsCutBelow pieces q after first
+cut_after pieces spans q before after first second t =
+    subst (λ n. (n ≤ length after) × IsCutBelow pieces q after n) (sym t.first_is)
+    (subst (λ (xs : List ℕ). (length t.low ≤ length xs) × IsCutBelow pieces q xs (length t.low)) (sym t.after_is) (
+      let e = length-append t.low (t.mid ++ t.high) in omega (arith, e),
+      parted_by (λ i. is_below pieces q i ≡ true) (λ i. is_below pieces q i ≡ false) t.low (t.mid ++ t.high) (λ i m. lt_in (pos 0) (side_of (piece_at pieces i).line q) (t.split.below i m)) others,
+    ))
+  where
+    none : (z : ℤ) → z ≡ pos 0 → z ≤ℤ pos 0
+    none z e = omega (arith, ints)
 
-  -- those that pass below stand before all others
-  parted_after : IsPartitionedBy (is_below pieces q) status
-  parted_after = parted (status_cmp (piece_at pieces) q) (is_below pieces q) status s.ascends
-      (λ i j mi mj h t.
-      let l = (piece_at pieces i).line in
-      let m = (piece_at pieces j).line in
-      let u = upper_side l m q (ordering_then (int_cmp (pos 0) (lean l m)) (nat_cmp i j)) (spans i (within i mi)).line (spans j (within j mj)).line (sym (then_assoc (level_cmp q l m) (int_cmp (pos 0) (lean l m)) (nat_cmp i j)) ∙ h) in
-      lt_in (pos 0) (side_of l q) (by_lt_z (pos 0) (side_of l q) (λ k. k) (λ k. absurd (both_ways (side_of m q) (lt_out (pos 0) (side_of m q) t) (u k)))))
-    where
-      both_ways : (z : ℤ) → pos 0 <ℤ z → z ≤ℤ pos 0 → ⊥
-      both_ways z h k = omega (arith, ints)
+    weak : (z : ℤ) → z <ℤ pos 0 → z ≤ℤ pos 0
+    weak z h = omega (arith, ints)
 
+    on : (i : ℕ) → Member i t.mid → IsOn (piece_at pieces i).line q
+    on i m = elim ((t.run i).0 m) [
+      | inl a ↦ t.split.through i a.0
+      | inr b ↦ subst (λ (p : Point). IsOn (piece_at pieces i).line p) b.1 (spans i b.0).way.lower_on
+    ]
+
+    others : (i : ℕ) → Member i (t.mid ++ t.high) → is_below pieces q i ≡ false
+    others i m = elim (in_either i t.mid t.high m) [
+      | inl a ↦ ge_in (pos 0) (side_of (piece_at pieces i).line q) (none (side_of (piece_at pieces i).line q) (on i a))
+      | inr b ↦ ge_in (pos 0) (side_of (piece_at pieces i).line q) (weak (side_of (piece_at pieces i).line q) (t.split.above i b))
+    ]
+
+module _ (pieces : List Span) (q : Point) (status : List ℕ) (s : IsStatus (piece_at pieces) (length pieces) q status) where
   place_of : (i : ℕ) → Member i status → (k : ℕ) × (k < length status) × (get_or status k 0 ≡ i)
   place_of i m = let k = from_member status i m in (k.0, k.1, any_default status k.0 0 i k.1 ∙ k.2)
 
@@ -69,25 +79,24 @@ module _ (pieces : List Span) (q : Point) (status : List ℕ) (spans : AreSpans 
         ],
   )
 
--- ---- of a sweep, by what is read of its lists
-module _ (s u : Swept) (q : Point) (same : s ≡ u) (last : Some q ≡ s.last) (spans : AreSpans s.pieces) (has : HasStatus s) (ps : List Span) (xs : List ℕ) (pieces_read : ps ≡ s.pieces) (status_read : xs ≡ s.status) where
-  status_is : IsStatus (piece_at s.pieces) (length s.pieces) q s.status
-  status_is = subst (λ l. IsStatusAfter (piece_at s.pieces) (length s.pieces) l s.status) (sym last) has
+-- ---- of a sweep, by what is kept of it
+module _ (s u : Swept) (same : s ≡ u) (has : HasStatus s) (n : ℕ) (cut : IsCutAfter s.pieces s.last s.status n) where
+  told : (o : Option ℕ) → IsBelowLast s o → IsBelowLast u o
+  told o h = subst (λ z. IsBelowLast z o) same h
 
-  pub parted_read : IsPartitionedBy (is_below ps q) xs
-  parted_read = subst (λ zs. IsPartitionedBy (is_below zs q) xs) (sym pieces_read) (subst (IsPartitionedBy (is_below s.pieces q)) (sym status_read) (parted_after s.pieces q s.status spans status_is))
+  pub none_kept : n ≡ 0 → IsBelowLast u None
+  none_kept z = told None (at s.last has cut)
+    where
+      at : (l : Option Point) → IsStatusAfter (piece_at s.pieces) (length s.pieces) l s.status → IsCutAfter s.pieces l s.status n → IsPieceBelowAfter (piece_at s.pieces) (length s.pieces) l None
+      at None k c = refl
+      at (Some q) k c = none_below s.pieces q s.status k n c.1 z
 
-  cut_there : (n : ℕ) → IsCutBelow ps q xs n → IsCutBelow s.pieces q s.status n
-  cut_there n h = subst (λ zs. IsCutBelow zs q s.status n) pieces_read (subst (λ ys. IsCutBelow ps q ys n) status_read h)
-
-  told : (o : Option ℕ) → IsPieceBelow (piece_at s.pieces) (length s.pieces) q o → IsBelowLast u o
-  told o h = subst (λ z. IsBelowLast z o) same (subst (λ l. IsPieceBelowAfter (piece_at s.pieces) (length s.pieces) l o) last h)
-
-  pub none_read : (n : ℕ) → IsCutBelow ps q xs n → n ≡ 0 → IsBelowLast u None
-  none_read n cut z = told None (none_below s.pieces q s.status spans status_is n (cut_there n cut) z)
-
-  pub highest_read : (n j : ℕ) → IsCutBelow ps q xs n → n ≤ length xs → (n ≡ 0 → ⊥) → j ≡ slice_index_or s.status (n - 1) j → IsBelowLast u (Some j)
-  highest_read n j cut b z e =
-      let l : n ≤ length s.status = subst (λ ys. n ≤ length ys) status_read b in
-      let i = any_default s.status (n - 1) j 0 (omega arith) in
-      told (Some j) (subst (λ k. IsPieceBelow (piece_at s.pieces) (length s.pieces) q (Some k)) (sym (e ∙ i)) (highest_below s.pieces q s.status spans status_is n (cut_there n cut) l (omega arith)))
+  pub highest_kept : (j : ℕ) → (n ≡ 0 → ⊥) → j ≡ slice_index_or s.status (n - 1) j → IsBelowLast u (Some j)
+  highest_kept j z e = told (Some j) (at s.last has cut)
+    where
+      at : (l : Option Point) → IsStatusAfter (piece_at s.pieces) (length s.pieces) l s.status → IsCutAfter s.pieces l s.status n → IsPieceBelowAfter (piece_at s.pieces) (length s.pieces) l (Some j)
+      at None k c = absurd (z c)
+      at (Some q) k c =
+          let l = c.0 in
+          let i = any_default s.status (n - 1) j 0 (omega (arith, l, z)) in
+          subst (λ o. IsPieceBelow (piece_at s.pieces) (length s.pieces) q (Some o)) (sym (e ∙ i)) (highest_below s.pieces q s.status k n c.1 l (omega (arith, z)))

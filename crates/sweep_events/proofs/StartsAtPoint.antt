@@ -17,7 +17,7 @@ use Rattle.sweep_events.specs.declared.places.Start.{Start}
 use Rattle.sweep_events.specs.Places.{piece_at, IsPlacesOf}
 use Rattle.sweep_events.specs.Starts.{start_cmp, AreStarts}
 use Rattle.sweep_status.proofs.Parts.{within_take, within_drop}
-use Rattle.integers.proofs.Tests.{is_less, first_less}
+use Rattle.integers.proofs.Tests.{first_less}
 
 abbrev pub before : Point → Start → Bool
 before q s = is_lt (point_cmp s.lower q)
@@ -30,10 +30,6 @@ neither Less h k = cc
 neither Equal h k = refl
 neither Greater h k = cc
 
-carried : (q x y : Point) → (point_cmp x y ≡ Less) ⊎ (point_cmp x y ≡ Equal) → is_lt (point_cmp y q) ≡ true → is_lt (point_cmp x q) ≡ true
-carried q x y (inl h) k = ap is_lt (point_cmp_total.trans x y q h (is_less (point_cmp y q) k))
-carried q x y (inr h) k = ap is_lt (point_cmp_total.congr x y q h) ∙ k
-
 carried_upto : (q x y : Point) → (point_cmp x y ≡ Less) ⊎ (point_cmp x y ≡ Equal) → is_le (point_cmp y q) ≡ true → is_le (point_cmp x q) ≡ true
 carried_upto q x y (inl h) k = at (point_cmp y q) refl k
   where
@@ -44,9 +40,6 @@ carried_upto q x y (inl h) k = at (point_cmp y q) refl k
 carried_upto q x y (inr h) k = ap is_le (point_cmp_total.congr x y q h) ∙ k
 
 module _ (pieces : List Span) (starts : List Start) (ok : AreStarts pieces starts) (q : Point) where
-  pub parted_before : IsPartitionedBy (before q) starts
-  parted_before = parted start_cmp (before q) starts ok.ascends (λ x y m n h k. carried q x.lower y.lower (first_less (point_cmp x.lower y.lower) (nat_cmp x.place y.place) h) k)
-
   pub parted_upto' : (n : ℕ) (rest : List Start) → IsAscending start_cmp rest → IsPartitionedBy (upto q) rest
   parted_upto' n rest a = parted start_cmp (upto q) rest a (λ x y m n h k. carried_upto q x.lower y.lower (first_less (point_cmp x.lower y.lower) (nat_cmp x.place y.place) h) k)
 

@@ -1,5 +1,6 @@
 ghost use Rattle.std.specs.Prelude.{◌≡◌, ◌≤◌, ◌+◌, length, IfOk, slice_get};
 ghost use Rattle.exact_plane.specs.Point.{IsPoint};
+ghost use Rattle.sweep_events.specs.Begun.{IsCutBefore};
 ghost use Rattle.sweep_events.specs.Places.{piece_at, AreSpans};
 ghost use Rattle.sweep_events.specs.Starts.{AreStarts};
 ghost use Rattle.sweep_events.specs.Status.{IsWaiting};
@@ -33,12 +34,14 @@ pub(crate) fn exchange_at(
     lines: &mut Vec<PlacedLine>,
     pieces: &[Span],
     starts: &[Start],
+    begun: usize,
     status: &[usize],
     point: &Point,
 ) -> Result<Exchange, NoMemory>
     requires spans { AreSpans pieces.now }
     requires point { IsPoint point.now }
     requires starts { AreStarts pieces.now starts.now }
+    requires begun { IsCutBefore starts.now point.now begun }
     requires waits { IsWaiting (piece_at pieces.now) (length pieces.now) point.now status.now }
     ensures in_turn { IfOk result (λ t. t.low ≤ t.high) }
     ensures in_bounds { IfOk result (λ t. t.high ≤ length status.now) }
@@ -46,11 +49,11 @@ pub(crate) fn exchange_at(
     ensures event { IfOk result (λ t. IsEventAt pieces.now point.now t.ends t.starts t.passes) }
 {
     let low = count_below(pieces, status, point);
-    let high = count_upto(pieces, status, point);
+    let high = count_upto(pieces, status, point, low);
     let (_, rest) = status.split_at(low);
     let (through, _) = rest.split_at(high - low);
     let (ends, passes) = parted_at(alloc, run, pieces, through, point)?;
-    let begun = starts_at(alloc, starts, point)?;
+    let begun = starts_at(alloc, starts, begun, point)?;
     sort_by_slope(lines, pieces, passes.as_slice(), begun.as_slice())?;
     fill_places(run, lines)?;
     let top = low + run.len();

@@ -1,12 +1,13 @@
-ghost use Rattle.std.specs.Prelude.{◌≡◌, ◌≤◌, ◌++◌, ℕ, ◌<◌, length, map, filter, not, IfOk, OnOk};
+ghost use Rattle.std.specs.Prelude.{◌≡◌, ◌≤◌, ◌+◌, ◌++◌, ℕ, ◌<◌, length, map, drop, filter, not, IfOk, OnOk};
 ghost use Rattle.std.specs.List.{prefix_len};
 ghost use Rattle.std.specs.List.Sorted.{IsPartitionedBy};
-ghost use Rattle.std.specs.Ordering.{nat_cmp, is_lt, is_le};
+ghost use Rattle.std.specs.Ordering.{nat_cmp, is_le};
 ghost use Rattle.exact_plane.specs.PointOrder.{point_cmp};
 ghost use Rattle.exact_plane.specs.Point.{IsPoint};
 ghost use Rattle.plane_graphs.specs.Ascending.{ascending, Member, IsAscending};
 ghost use Rattle.sweep_events.specs.Places.{piece_at, is_below, is_upto, IsCutBelow, IsCutUpto, AreSpans, ArePlaces, ArePlacesOfBoth};
 ghost use Rattle.sweep_events.specs.Status.{waiting_cmp, run_cmp};
+ghost use Rattle.sweep_events.specs.Begun.{IsCutBefore};
 ghost use Rattle.sweep_events.specs.Starts.{AreStarts, AreStartingAt};
 ghost use Rattle.sweep_events.specs.Runs.{placed_line_cmp, placed_line, line_places, ends_there, ending_of, others_of};
 
@@ -67,15 +68,29 @@ pub(crate) fn count_below(pieces: &[Span], status: &[usize], point: &Point) -> u
     status.partition_point(|place| passes_below(pieces, *place, point))
 }
 
-// How many pass below it or through it.
-pub(crate) fn count_upto(pieces: &[Span], status: &[usize], point: &Point) -> usize
+// How many of them stand first and pass below it or through it.
+fn count_through(pieces: &[Span], places: &[usize], point: &Point) -> usize
+    ensures { result ≡ prefix_len (is_upto pieces.now point.now) places.now }
+{
+    places
+        .iter()
+        .take_while(|place| passes_upto(pieces, **place, point))
+        .count()
+}
+
+// How many pass below it or through it, where those that pass below it are known. Few pass through it, so that they are met one by
+// one.
+pub(crate) fn count_upto(pieces: &[Span], status: &[usize], point: &Point, below: usize) -> usize
+    requires known { below ≤ length status.now }
+    requires below { IsCutBelow pieces.now point.now status.now below }
     requires spans { AreSpans pieces.now }
     requires places { ArePlaces pieces.now status.now }
     requires waits { IsAscending (waiting_cmp (piece_at pieces.now) point.now) status.now }
     ensures bound { result ≤ length status.now }
     ensures cut { IsCutUpto pieces.now point.now status.now result }
 {
-    status.partition_point(|place| passes_upto(pieces, *place, point))
+    let (_, rest) = status.split_at(below);
+    below + count_through(pieces, rest, point)
 }
 
 // All pieces by their lower ends.
@@ -95,12 +110,6 @@ pub(crate) fn starts_of(alloc: Global, pieces: &[Span]) -> Result<Vec<Start>, No
 }
 
 // Whether the piece starts before the point, or there.
-fn starts_before(start: &Start, point: &Point) -> bool
-    ensures { result ≡ is_lt (point_cmp start.now.lower point.now) }
-{
-    start.lower < *point
-}
-
 fn starts_upto(start: &Start, point: &Point) -> bool
     ensures { result ≡ is_le (point_cmp start.now.lower point.now) }
 {
@@ -117,16 +126,26 @@ fn count_starting(starts: &[Start], point: &Point) -> usize
         .count()
 }
 
-// The places of the pieces that start at the point.
+// How many start no later than the point, where so many, the first ones, have begun before.
+pub(crate) fn count_begun(starts: &[Start], begun: usize, point: &Point) -> usize
+    requires { begun ≤ length starts.now }
+    ensures { result ≡ begun + prefix_len (λ s. is_le (point_cmp s.lower point.now)) (drop begun starts.now) }
+{
+    let (_, rest) = starts.split_at(begun);
+    begun + count_starting(rest, point)
+}
+
+// The places of the pieces that start at the point, where so many, the first ones, start before it.
 pub(crate) fn starts_at(
     alloc: Global,
     starts: &[Start],
+    begun: usize,
     point: &Point,
 ) -> Result<Sequence<usize>, NoMemory>
+    requires { IsCutBefore starts.now point.now begun }
     ensures { IfOk result (λ v. AreStartingAt starts.now point.now v) }
 {
-    let from = starts.partition_point(|start| starts_before(start, point));
-    let (_, rest) = starts.split_at(from);
+    let (_, rest) = starts.split_at(begun);
     let (here, _) = rest.split_at(count_starting(rest, point));
     let mut places = Sequence::new(alloc);
     for start in here {

@@ -1,6 +1,9 @@
 ghost use Rattle.std.specs.Prelude.{◌≡◌, ◌↔◌, ◌<◌, ◌≤◌, [], Some, None, IfOk, OnOk, OnErr, IfSome, IfNone, length};
 ghost use Rattle.exact_plane.specs.Point.{Point};
-ghost use Rattle.exact_plane.specs.Span.{Span};
+ghost use Rattle.exact_plane.specs.Span.{Span, IsAtMost};
+ghost use Rattle.plane_graphs.specs.Ascending.{Member, IsAscending};
+ghost use Rattle.sweep_events.specs.Begun.{queue_of, IsFirstOf, IsPassed};
+ghost use Rattle.sweep_events.specs.Starts.{start_cmp};
 ghost use Rattle.sweep_events.specs.Events.{AreMeeting};
 ghost use Rattle.sweep_events.specs.EventList.{events_left};
 ghost use Rattle.sweep_events.specs.Exchange.{exchanged};
@@ -12,7 +15,7 @@ ghost use Rattle.sweep_events.specs.FirstQueue.{HasEnds, HasPins};
 
 use crate::event::Event;
 use crate::exchange::{Exchange, exchange_at, place_after};
-use crate::places::{PlacedLine, Start, at_place, count_below, starts_of};
+use crate::places::{PlacedLine, Start, at_place, count_begun, starts_of};
 use exact_plane::{Meet, Point, Span, span_meeting};
 use no_memory::NoMemory;
 use std::alloc::Global;
@@ -33,6 +36,10 @@ pub struct Sweep {
     queue: BTreeSet<Point>,
     status: Vec<usize>,
     last: Option<Point>,
+    // How many of the starts, the first ones, are no later than the last event.
+    begun: usize,
+    // How many places of the status, the first ones, are of pieces that pass below the last event.
+    below: usize,
     // Room for the run that an event brings, and for its lines, kept from one event to the next.
     run: Vec<usize>,
     lines: Vec<PlacedLine>,
@@ -46,7 +53,7 @@ impl Model for Sweep {
     ghost view = { λ s. swept s.pieces.items s.pins.items s.last s.status.items };
 
     ghost invariant = { λ s.
-        HasParts (swept s.pieces.items s.pins.items s.last s.status.items) s.starts.items s.queue.keys };
+        HasParts (swept s.pieces.items s.pins.items s.last s.status.items) s.starts.items s.queue.keys s.begun s.below };
 }
 
 // The common point of two pieces of different lines.
@@ -133,15 +140,57 @@ fn await_seams(
     await_seam(queue, pieces, status, exchange, run, exchange.top, point)
 }
 
-// Puts both ends of each piece into the queue.
+// Puts the upper end of each piece into the queue. The lower ends stand in their order elsewhere.
 fn add_ends(queue: &mut BTreeSet<Point>, pieces: &[Span]) -> Result<(), NoMemory>
     ensures { OnOk result (HasEnds pieces.now (length pieces.now) queue.old.keys queue.new.keys) }
 {
     for piece in pieces {
-        queue.insert(piece.lower())?;
         queue.insert(piece.upper())?;
     }
     Ok(())
+}
+
+// The first point of a queue.
+fn first_of(queue: &BTreeSet<Point>) -> Option<Point>
+    ensures some { IfSome result (λ q. IsFirstOf q queue.now.keys) }
+    ensures none { IfNone result (queue.now.keys ≡ []) }
+{
+    let Some(first) = queue.first() else {
+        return None;
+    };
+    Some(*first)
+}
+
+// The first of the points in a queue and the lower ends of all pieces but so many.
+fn next_point(queue: &BTreeSet<Point>, starts: &[Start], begun: usize) -> Option<Point>
+    requires { IsAscending start_cmp starts.now }
+    ensures some { IfSome result (λ q. IsFirstOf q (queue_of queue.now.keys starts.now begun)) }
+    ensures none { IfNone result (queue_of queue.now.keys starts.now begun ≡ []) }
+{
+    let Some(start) = starts.get(begun) else {
+        return first_of(queue);
+    };
+    let Some(point) = first_of(queue) else {
+        return Some(start.lower);
+    };
+    if point < start.lower {
+        return Some(point);
+    }
+    Some(start.lower)
+}
+
+// Takes a point out of a queue, where it is the first one, and no point of the queue comes before it.
+fn pass(queue: &mut BTreeSet<Point>, point: &Point)
+    requires { (r : Point) → Member r queue.old.keys → IsAtMost point.now r }
+    ensures { IsPassed point.now queue.old.keys queue.new.keys }
+{
+    let Some(first) = first_of(queue) else {
+        return;
+    };
+    if *point < first {
+        return;
+    }
+    let _ = queue.pop_first();
 }
 
 // Puts the pins into the queue.
@@ -181,6 +230,8 @@ impl Sweep {
             queue,
             status: Vec::new(alloc),
             last: None,
+            begun: 0,
+            below: 0,
             run: Vec::new(alloc),
             lines: Vec::new(alloc),
         })
@@ -200,16 +251,16 @@ impl Sweep {
         ensures stays { (self.new.pieces ≡ self.old.pieces) × (self.new.pins ≡ self.old.pins) }
         ensures err { OnErr result (self.new ≡ self.old) }
     {
-        let Some(first) = self.queue.first() else {
+        let Some(point) = next_point(&self.queue, &self.starts, self.begun) else {
             return Ok(None);
         };
-        let point = *first;
         let exchange = exchange_at(
             self.alloc,
             &mut self.run,
             &mut self.lines,
             &self.pieces,
             &self.starts,
+            self.begun,
             &self.status,
             &point,
         )?;
@@ -222,8 +273,10 @@ impl Sweep {
             &point,
         )?;
         replace(&mut self.status, exchange.low, exchange.high, &self.run)?;
-        let _ = self.queue.pop_first();
+        pass(&mut self.queue, &point);
+        self.begun = count_begun(&self.starts, self.begun, &point);
         self.last = Some(point);
+        self.below = exchange.low;
         Ok(Some(Event {
             point,
             ends: exchange.ends,
@@ -248,11 +301,9 @@ impl Sweep {
     pub fn below(&self) -> Option<usize>
         ensures { IsBelowLast self.now result }
     {
-        let point = self.last?;
-        let count = count_below(&self.pieces, &self.status, &point);
-        if count == 0 {
+        if self.below == 0 {
             return None;
         }
-        Some(self.status[count - 1])
+        Some(self.status[self.below - 1])
     }
 }

@@ -16,6 +16,12 @@ count_below-low-requires c = parted_below c.args.pieces.now c.args.point.now c.a
 pub count_upto-high-requires-clause-places : goal.count_upto-high-requires-clause-places
 count_upto-high-requires-clause-places c = λ i m. ((c.requires.waits.met i).0 m).0
 
+pub count_upto-high-requires-clause-known : goal.count_upto-high-requires-clause-known
+count_upto-high-requires-clause-known c = c.count_below-low.ensures.bound
+
+pub count_upto-high-requires-clause-below : goal.count_upto-high-requires-clause-below
+count_upto-high-requires-clause-below c = c.count_below-low.ensures.cut
+
 pub overflow_sub-high : goal.overflow_sub-high
 overflow_sub-high c =
     let ps = c.args.pieces.now in

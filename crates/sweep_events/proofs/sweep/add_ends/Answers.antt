@@ -7,6 +7,5 @@ use Rattle.sweep_events.proofs.sweep.add_ends.Goals as goal
 pub loop-piece-preserved : goal.loop-piece-preserved
 loop-piece-preserved c =
     let now = c.loop-piece.queue.keys in
-    let mid = c.insert.new.self.keys in
-    ends_more c.args.pieces.now c.loop-piece.piece-index c.piece-item.result c.args.queue.now.keys now mid c.insert-in-loop-piece.new.self.keys c.loop-piece-test.true c.piece-item.is c.loop-piece.invariant
-    (c.in_ok-insert.ensures.keys ∙ ap (insert_key point_cmp now) c.lower.ensures.value) (c.in_ok-insert-2.ensures.keys ∙ ap (insert_key point_cmp mid) c.upper.ensures)
+    ends_more c.args.pieces.now c.loop-piece.piece-index c.piece-item.result c.args.queue.now.keys now c.insert.new.self.keys c.loop-piece-test.true c.piece-item.is c.loop-piece.invariant
+    (c.in_ok-insert.ensures.keys ∙ ap (insert_key point_cmp now) c.upper.ensures)
