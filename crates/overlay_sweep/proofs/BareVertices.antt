@@ -25,7 +25,7 @@ use Rattle.slab_faces.proofs.Places.{points_exact}
 use Rattle.dart_orbits.proofs.Listed.{dart_there, dart_within, dart_at_place, source_of_row, rows_ascend, rows_length, source_in}
 use Rattle.dart_orbits.proofs.Placed.{at_place}
 use Rattle.dart_orbits.proofs.RowOrder.{row_cmp}
-use Rattle.edges_below.specs.Highest.{IsHighestBelow, highest}
+use Rattle.edge_predicates.specs.Highest.{IsHighestBelow, highest}
 use Rattle.face_roots.specs.CycleLinks.{IsBare}
 use Rattle.face_roots.proofs.FaceLinks.{links_tell_faces}
 use Rattle.face_roots.proofs.OuterRanks.{first_rank}

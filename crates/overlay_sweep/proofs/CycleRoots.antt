@@ -21,7 +21,7 @@ use Rattle.dart_orbits.proofs.DartCells.{edge_there}
 use Rattle.dart_orbits.proofs.LeastDarts.{least_there}
 use Rattle.dart_orbits.proofs.Listed.{dart_within, dart_at_place, rows_length, row_at, source_in}
 use Rattle.dart_orbits.proofs.Placed.{at_place, place_within, lower}
-use Rattle.edges_below.specs.Highest.{IsHighestBelow}
+use Rattle.edge_predicates.specs.Highest.{IsHighestBelow}
 use Rattle.face_changes.specs.Kinds.{is_outer}
 use Rattle.face_roots.specs.CycleRanks.{lead_at}
 use Rattle.face_roots.proofs.OuterRanks.{ranks_by_roots}

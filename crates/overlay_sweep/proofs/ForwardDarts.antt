@@ -23,9 +23,10 @@ use Rattle.dart_orbits.proofs.RowOrder.{row_cmp}
 use Rattle.sweep_graphs.specs.declared.edges.EdgeEnds.{EdgeEnds}
 use Rattle.sweep_graphs.specs.Edges.{ends_cmp, edge_between}
 use Rattle.sweep_graphs.specs.Traces.{point_at, no_point}
-use Rattle.sweep_graphs.proofs.EdgeOrders.{then_less, ends_cmp_total, ends_never}
+use Rattle.sweep_graphs.proofs.EdgeOrders.{ends_cmp_total, ends_never}
 use Rattle.dart_orbits.specs.Ways.{no_row, row_in}
 use Rattle.overlay_sweep.specs.DartEnds.{ends_of_row}
+use Rattle.integers.proofs.Classes.{then_less}
 
 -- what comes earlier among rows has lesser ends or the same
 ends_rise : (x y : ListedDart) → row_cmp x y ≡ Less → (ends_cmp (ends_of_row x) (ends_of_row y) ≡ Less) ⊎ (ends_of_row x ≡ ends_of_row y)

@@ -43,7 +43,7 @@ use Rattle.face_roots.specs.CycleRanks.{root_at, is_outer_root, lead_at, IsRootO
 use Rattle.sweep_graphs.specs.declared.trace.Stretch.{Stretch}
 use Rattle.sweep_graphs.specs.Edges.{stretch_cmp, curve_at, mark_along}
 use Rattle.sweep_graphs.specs.Traces.{point_at, no_point}
-use Rattle.sweep_graphs.proofs.EdgeOrders.{then_less, one_point, stretch_cmp_total, stretch_cmp_exact}
+use Rattle.sweep_graphs.proofs.EdgeOrders.{one_point, stretch_cmp_total, stretch_cmp_exact}
 use Rattle.subdivision_rows.specs.RowsInMemory.{drawing_of, AreSoundRows}
 use Rattle.subdivision_rows.specs.declared.lists.RowLists.{RowLists}
 use Rattle.subdivision_rows.proofs.SpanLines.{lines_by_spans}
@@ -52,6 +52,7 @@ use Rattle.overlay_sweep.specs.GraphRows.{kind_of_root, AreNumberedByPlace, IsWi
 use Rattle.overlay_sweep.specs.LayerGraphs.{IsLayerGraph}
 use Rattle.overlay_sweep.specs.declared.graphs.LayerGraph.{LayerGraph}
 use Rattle.overlay_sweep.proofs.EdgeCycles.{own_lead}
+use Rattle.integers.proofs.Classes.{then_less}
 
 -- ---- marks
 -- along points that ascend, and pieces that are numbered by their places, marks keep the order of stretches

@@ -23,8 +23,8 @@ use Rattle.slab_faces.proofs.Places.{points_exact, place_before}
 use Rattle.slab_faces.proofs.RotationLemmas.{round_at}
 use Rattle.dart_orbits.proofs.Listed.{dart_there, dart_within, dart_at_place, row_at, rows_length, source_in}
 use Rattle.dart_orbits.proofs.Placed.{at_place, place_at, place_within, ascending_apart}
-use Rattle.edges_below.specs.FaceLaws.{cell_over}
-use Rattle.edges_below.specs.Highest.{IsHighestBelow, highest}
+use Rattle.edge_predicates.specs.FaceLaws.{cell_over}
+use Rattle.edge_predicates.specs.Highest.{IsHighestBelow, highest}
 use Rattle.face_roots.specs.LowestDarts.{IsLowestFrom, IsNextLower}
 use Rattle.face_roots.proofs.LowestDarts.{lowest_is_above_below}
 use Rattle.face_roots.proofs.PointOrder.{before}

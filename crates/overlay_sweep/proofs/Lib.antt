@@ -15,6 +15,7 @@ pub mod PiecesAlong
 pub mod FaceRows
 pub mod RunsAlong
 pub mod CurveRows
+pub mod Cuts
 pub mod TracedEdges
 pub mod RowsAhead
 pub mod UnitedPieces

@@ -11,9 +11,10 @@ use Rattle.plane_graphs.proofs.Sorting.{parted, rises, member_at, any_default}
 use Rattle.sweep_graphs.specs.declared.edges.EdgeEnds.{EdgeEnds}
 use Rattle.sweep_graphs.specs.declared.trace.Stretch.{Stretch}
 use Rattle.sweep_graphs.specs.Edges.{ends_of, stretch_cmp}
-use Rattle.sweep_graphs.proofs.EdgeOrders.{then_less, stretch_cmp_total}
+use Rattle.sweep_graphs.proofs.EdgeOrders.{stretch_cmp_total}
 use Rattle.overlay_sweep.specs.KnownEdges.{IsPlaceOfOwn, IsOwnAlong}
 use Rattle.overlay_sweep.proofs.PiecesAlong.{no_stretch}
+use Rattle.integers.proofs.Classes.{then_less}
 
 -- the ends of x come before those of y, or are the same, and then its piece comes before
 abbrev IsLesser : Stretch → Stretch → Type 0
@@ -45,10 +46,10 @@ bar_at e first = record { low = e.low; high = e.high; piece = first }
 abbrev pub is_before : Stretch → Stretch → Bool
 is_before w s = is_lt (stretch_cmp s w)
 
-module _ (xs : List Stretch) (up : IsAscending stretch_cmp xs) (e : EdgeEnds) (first : ℕ) where
-  pub parted_along : IsPartitionedBy (is_before (bar_at e first)) xs
-  parted_along = parted stretch_cmp (is_before (bar_at e first)) xs up (λ x y _ _ h k. ap is_lt (stretch_cmp_total.trans x y (bar_at e first) h (is_less (stretch_cmp y (bar_at e first)) k)))
+pub parted_by : (xs : List Stretch) (w : Stretch) → IsAscending stretch_cmp xs → IsPartitionedBy (is_before w) xs
+parted_by xs w up = parted stretch_cmp (is_before w) xs up (λ x y _ _ h k. ap is_lt (stretch_cmp_total.trans x y w h (is_less (stretch_cmp y w) k)))
 
+module _ (xs : List Stretch) (up : IsAscending stretch_cmp xs) (e : EdgeEnds) (first : ℕ) where
   -- what is not before, and no later than one along the edge, runs along it, too
   record IsFirst (x s : Stretch) : Type 0 where
     ends : ends_of x ≡ e

@@ -10,7 +10,7 @@ use Rattle.plane_graphs.specs.Ascending.{Member}
 use Rattle.plane_graphs.specs.Line.{precedes}
 use Rattle.plane_graphs.proofs.Closed.{IsLast, IsFirst, last_passing, first_passing}
 use Rattle.plane_graphs.proofs.Lists.{and_in, not_in, not_out, clash}
-use Rattle.plane_graphs.proofs.Order.{lt_out}
+use Rattle.plane_graphs.proofs.Order.{at_most_out, lt_out}
 use Rattle.plane_graphs.proofs.Sorting.{rises}
 use Rattle.present_graphs.specs.Spans.{lies_on}
 use Rattle.present_graphs.proofs.OnSpans.{lies_on_in, lies_on_out}
@@ -24,9 +24,6 @@ use Rattle.sweep_graphs.specs.Traces.{point_at, no_point, IsEventOn, IsStep, IsT
 -- ---- not after, by tests
 pub upto_in : (p q : Point) → IsAtMost p q → not (precedes q p) ≡ true
 upto_in p q h = not_in (precedes q p) (λ e. not_both q p (lt_out q p e).is h)
-
-pub upto_out : (p q : Point) → not (precedes q p) ≡ true → IsAtMost p q
-upto_out p q h = elim (in_order p q) [ inl k ↦ k | inr k ↦ clash (ap is_lt k) (not_out (precedes q p) h) ]
 
 module _ (ps : List Span) (pins : List Point) (t : Trace) (h : IsTrace ps pins t) where
   abbrev On : ℕ → Point → Type 0
@@ -69,7 +66,7 @@ module _ (ps : List Span) (pins : List Point) (t : Trace) (h : IsTrace ps pins t
         let y = first_high in
         let u = and_true (lies_on (piece_at ps i) x.0) (not (precedes a x.0)) x.1.passes in
         let w = and_true (lies_on (piece_at ps i) y.0) (precedes a y.0) y.1.passes in
-        let low = upto_out x.0 a u.1 in
+        let low = at_most_out x.0 a u.1 in
         let high = (lt_out a y.0 w.1).is in (
           x.0,
           y.0,

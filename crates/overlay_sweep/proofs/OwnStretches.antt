@@ -4,12 +4,11 @@ use Rattle.std.specs.Ordering.{eq_by_cmp, is_lt, ordering_then}
 use Rattle.std.specs.Cmp.{IsTotalOrder, then_total, on_total, nat_cmp_total, tied_itself}
 use Rattle.std.specs.List.Sorted.{IsPartitionedBy, IsPartitionPoint}
 use Rattle.std.proofs.lemmas.Bool.{false≢true, cases_lt}
-use Rattle.integers.proofs.Classes.{then_equal}
+use Rattle.integers.proofs.Classes.{then_equal, then_less}
 use Rattle.integers.proofs.Tests.{nat_exact, nat_less, less_nat, number_ties, both_equal, is_less}
 use Rattle.plane_graphs.specs.Ascending.{IsAscending}
 use Rattle.plane_graphs.proofs.Ascending.{from_member}
 use Rattle.plane_graphs.proofs.Sorting.{parted, rises, member_at, any_default}
-use Rattle.sweep_graphs.proofs.EdgeOrders.{then_less}
 use Rattle.overlay_sweep.specs.declared.own.PieceStretch.{PieceStretch}
 use Rattle.overlay_sweep.specs.OwnStretches.{piece_cmp, IsBegun, IsLastBegun}
 

@@ -9,8 +9,9 @@ use Rattle.plane_graphs.proofs.Sorting.{member_at, any_default, parted, rises}
 use Rattle.sweep_graphs.specs.declared.edges.EdgeEnds.{EdgeEnds}
 use Rattle.sweep_graphs.specs.declared.trace.Stretch.{Stretch}
 use Rattle.sweep_graphs.specs.Edges.{ends_of, ends_cmp, stretch_cmp}
-use Rattle.sweep_graphs.proofs.EdgeOrders.{then_less, ends_cmp_total, ends_never}
+use Rattle.sweep_graphs.proofs.EdgeOrders.{ends_cmp_total, ends_never}
 use Rattle.overlay_sweep.specs.PiecesAlong.{IsAlongSome, IsPieceAlong}
+use Rattle.integers.proofs.Classes.{then_less}
 
 -- what comes earlier among stretches has lesser ends or the same
 pub ends_rise : (x y : Stretch) → stretch_cmp x y ≡ Less → (ends_cmp (ends_of x) (ends_of y) ≡ Less) ⊎ (ends_of x ≡ ends_of y)

@@ -8,7 +8,7 @@ use Rattle.plane_graphs.specs.Graph.{Edge, graph}
 use Rattle.plane_graphs.specs.Piece.{Present}
 use Rattle.slab_laws.specs.SpansDrawn.{drawn, edge_of}
 use Rattle.slab_laws.specs.Text.{skeleton}
-use Rattle.edges_below.specs.Highest.{IsHighestBelow}
+use Rattle.edge_predicates.specs.Highest.{IsHighestBelow}
 use Rattle.sweep_graphs.specs.declared.edges.EdgeEnds.{EdgeEnds}
 use Rattle.sweep_graphs.specs.declared.trace.Trace.{Trace}
 use Rattle.sweep_graphs.specs.Edges.{edge_between}

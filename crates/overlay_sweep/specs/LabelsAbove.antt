@@ -10,7 +10,7 @@ use Rattle.slab_laws.specs.Meets.{SameFace}
 use Rattle.slab_laws.specs.Rows.{dart_list, dart_at, edge_place, vertex_place}
 use Rattle.slab_laws.specs.Skeleton.{Skeleton}
 use Rattle.slab_laws.specs.Subdivision.{first_cell}
-use Rattle.edges_below.specs.FaceLaws.{cell_over}
+use Rattle.edge_predicates.specs.FaceLaws.{cell_over}
 use Rattle.sweep_graphs.specs.declared.edges.EdgeEnds.{EdgeEnds}
 use Rattle.sweep_graphs.specs.Edges.{edge_between}
 use Rattle.dart_orbits.specs.Around.{dart_placed}

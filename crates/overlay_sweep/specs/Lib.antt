@@ -13,3 +13,4 @@ pub mod OwnStretches
 pub mod KnownEdges
 pub mod GraphRows
 pub mod EdgePieces
+pub mod Cuts

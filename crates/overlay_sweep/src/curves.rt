@@ -14,7 +14,8 @@ use std::alloc::{AllocError, Global};
 use subdivision_rows::arrange_curves;
 use sweep_graphs::{EdgeEnds, Stretch};
 
-fn is_along(stretch: &Stretch, edge: &EdgeEnds) -> bool
+// Whether a stretch runs along an edge.
+pub(crate) fn is_along(stretch: &Stretch, edge: &EdgeEnds) -> bool
     ensures { result ≡ is_along edge.now stretch.now }
 {
     stretch.low == edge.low && stretch.high == edge.high

@@ -14,7 +14,7 @@ ghost use Rattle.overlay_sweep.specs.EdgeSpans.{AreOnLines, AreAlongSome};
 ghost use Rattle.overlay_sweep.specs.LayerGraphs.{IsLayerGraph};
 ghost use Rattle.overlay_sweep.specs.PiecesAlong.{IsAlongSome};
 
-use crate::pieces::piece_along;
+use crate::pieces::{piece_from, place_after};
 use crate::roots::{cycle_ranks, roots_of};
 use dart_orbits::{Orbits, orbits_of};
 use exact_plane::{Line, Point, Span};
@@ -86,20 +86,26 @@ fn line_at(pieces: &[Span], piece: usize) -> Line
     pieces[piece].line()
 }
 
-// An edge as a part of the line of the first piece that runs along it.
-fn span_along(pieces: &[Span], points: &[Point], stretches: &[Stretch], edge: &EdgeEnds) -> Span
+// An edge as a part of the line of a piece that runs along it, whose stretch should be at the place.
+fn span_along(
+    pieces: &[Span],
+    points: &[Point],
+    stretches: &[Stretch],
+    place: usize,
+    edge: &EdgeEnds,
+) -> Span
     requires ascend { IsAscending stretch_cmp stretches.now }
     requires lines { AreOnLines pieces.now points.now stretches.now }
     requires along { IsAlongSome stretches.now edge.now }
     ensures { edge_of result ≡ edge_between points.now edge.now }
 {
-    let line = line_at(pieces, piece_along(stretches, edge));
+    let line = line_at(pieces, piece_from(stretches, place, edge));
     let low = vertex_at(points, edge.low);
     let high = vertex_at(points, edge.high);
     Span::between(low, high, line)
 }
 
-// Edges with their points and lines.
+// Edges with their points and lines. It goes through the edges and their stretches in step.
 fn spans_along(
     alloc: Global,
     pieces: &[Span],
@@ -113,8 +119,10 @@ fn spans_along(
     ensures { IfOk result (λ v. map edge_of v.items ≡ map (edge_between points.now) edges.now) }
 {
     let mut spans = Vec::with_capacity(alloc, edges.len())?;
+    let mut place = 0;
     for edge in edges {
-        spans.push(span_along(pieces, points, stretches, edge))?;
+        spans.push(span_along(pieces, points, stretches, place, edge))?;
+        place = place_after(stretches, place, edge);
     }
     Ok(spans)
 }

@@ -146,5 +146,12 @@ pub fn overlay(alloc: Global, red: &Present, blue: &Present) -> Result<Both, NoM
     let (of_red, of_blue) = tables_of(alloc, red, blue, &whole)?;
     let counted = counted_by(alloc, red, blue, united, whole)?;
     counted.rows.laws();
-    Ok(Both::of(counted.rows, of_red, of_blue, counted.red, counted.blue))
+    Ok(Both::of(
+        alloc,
+        counted.rows,
+        of_red,
+        of_blue,
+        counted.red,
+        counted.blue,
+    ))
 }

@@ -1,10 +1,12 @@
-ghost use Rattle.std.specs.Prelude.{◌≡◌, ◌<◌, ℕ, map, slice_index_or, Some, Contains, IfOk};
+ghost use Rattle.std.specs.Prelude.{◌≡◌, ◌<◌, ℕ, true, false, map, slice_index_or, Some, Contains, IfOk};
+ghost use Rattle.std.specs.List.Sorted.{IsPartitionPoint};
 ghost use Rattle.std.specs.Ordering.{is_lt};
 ghost use Rattle.plane_graphs.specs.Ascending.{ascending, IsAscending};
 ghost use Rattle.plane_graphs.specs.Fit.{IsFit};
 ghost use Rattle.slab_laws.specs.Pieces.{present_of};
 ghost use Rattle.slab_laws.specs.SpansDrawn.{drawn};
 ghost use Rattle.sweep_graphs.specs.Edges.{stretch_cmp, edge_between};
+ghost use Rattle.overlay_sweep.specs.Cuts.{StandsWith, IsCutAt};
 ghost use Rattle.overlay_sweep.specs.KnownEdges.{rank_over, IsPlaceOfOwn, IsOwnAlong, IsRankOn};
 ghost use Rattle.overlay_sweep.specs.KnownLabels.{AreKnown};
 ghost use Rattle.overlay_sweep.specs.LayerGraphs.{IsLayerGraph, ArePiecesFrom};
@@ -35,8 +37,67 @@ fn comes_before(stretch: &Stretch, bar: &Stretch) -> bool
     *stretch < *bar
 }
 
-// The place of one of the pieces that runs along the edge, the first of those, by one search.
-fn own_along(stretches: &[Stretch], edge: &EdgeEnds, first: usize, count: usize) -> Option<usize>
+fn stands_before(stretches: &[Stretch], place: usize, bar: &Stretch) -> bool
+    ensures { result ≡ true → StandsWith (λ s. is_lt (stretch_cmp s bar.now)) true stretches.now place }
+{
+    match stretches.get(place) {
+        Some(stretch) => comes_before(stretch, bar),
+        None => false,
+    }
+}
+
+fn stands_beyond(stretches: &[Stretch], place: usize, bar: &Stretch) -> bool
+    ensures { result ≡ true → StandsWith (λ s. is_lt (stretch_cmp s bar.now)) false stretches.now place }
+{
+    match stretches.get(place) {
+        Some(stretch) => !comes_before(stretch, bar),
+        None => false,
+    }
+}
+
+// Whether those that come before the bar end just before the place. Where none does, or all do, it says no.
+fn is_cut(stretches: &[Stretch], place: usize, bar: &Stretch) -> bool
+    ensures { result ≡ true → IsCutAt (λ s. is_lt (stretch_cmp s bar.now)) stretches.now place }
+{
+    if place == 0 {
+        return false;
+    }
+    if !stands_before(stretches, place - 1, bar) {
+        return false;
+    }
+    stands_beyond(stretches, place, bar)
+}
+
+// How many stand first and come before the bar. Few do, so that they are met one by one.
+fn count_before(stretches: &[Stretch], bar: &Stretch) -> usize {
+    stretches
+        .iter()
+        .take_while(|stretch| comes_before(stretch, bar))
+        .count()
+}
+
+// Where those that come before the bar end, which should be at the place or soon after it; else by one search.
+fn end_before(stretches: &[Stretch], place: usize, bar: &Stretch) -> usize
+    requires { IsAscending stretch_cmp stretches.now }
+    ensures { IsPartitionPoint (λ s. is_lt (stretch_cmp s bar.now) ≡ true) (λ s. is_lt (stretch_cmp s bar.now) ≡ false) stretches.now result }
+{
+    let (_, rest) = stretches.split_at(place.min(stretches.len()));
+    let end = place.saturating_add(count_before(rest, bar));
+    if is_cut(stretches, end, bar) {
+        return end;
+    }
+    stretches.partition_point(|stretch| comes_before(stretch, bar))
+}
+
+// The place of one of the pieces that runs along the edge, the first of those. Its stretch should come soon after the place, which
+// becomes its own.
+fn own_along(
+    stretches: &[Stretch],
+    edge: &EdgeEnds,
+    first: usize,
+    count: usize,
+    place: &mut usize,
+) -> Option<usize>
     requires { IsAscending stretch_cmp stretches.now }
     ensures { IsOwnAlong first count stretches.now edge.now result }
 {
@@ -45,8 +106,9 @@ fn own_along(stretches: &[Stretch], edge: &EdgeEnds, first: usize, count: usize)
         high: edge.high,
         piece: first,
     };
-    let place = stretches.partition_point(|stretch| comes_before(stretch, &bar));
-    let stretch = stretches.get(place)?;
+    let end = end_before(stretches, *place, &bar);
+    *place = end;
+    let stretch = stretches.get(end)?;
     place_of_own(stretch, edge, first, count)
 }
 
@@ -108,7 +170,7 @@ fn count_at(counts: &[usize], vertex: usize) -> usize
 /// Halperin and Wein: an edge of the overlay lies on an edge of each layer whose curve it has); of any other edge, none.
 ///
 /// Both graphs are those of `graph_of`, that of the layer's pieces and that of a present that has these from the place `first` on.
-/// Three searches for each edge at most, none of them by points.
+/// It goes through the edges and their stretches in step; two searches for each edge at most, none of them by points.
 ///
 /// # Errors
 ///
@@ -133,8 +195,9 @@ pub fn known_labels(
     )?;
     let count = layer.pieces.as_slice().len();
     let mut known = Vec::with_capacity(alloc, whole.edges.len())?;
+    let mut place = 0;
     for edge in &whole.edges {
-        let piece = own_along(&whole.stretches, edge, first, count);
+        let piece = own_along(&whole.stretches, edge, first, count, &mut place);
         known.push(rank_from(own, &stretches, piece, count_at(&counts, edge.low)))?;
     }
     Ok(known)

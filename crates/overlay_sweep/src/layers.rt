@@ -1,4 +1,6 @@
-ghost use Rattle.std.specs.Prelude.{◌≡◌, ◌+◌, ◌<◌, ◌≤◌, ℕ, cond, length, slice_index_or, slice_set, None, IfOk};
+ghost use Rattle.std.specs.Prelude.{◌≡◌, ◌+◌, ◌<◌, ◌≤◌, ℕ, true, false, cond, length, slice_index_or, slice_set, None, IfOk};
+ghost use Rattle.std.specs.List.Sorted.{IsPartitionPoint};
+ghost use lib.Dec.{leb};
 ghost use Rattle.exact_plane.specs.PointOrder.{point_cmp};
 ghost use Rattle.plane_graphs.specs.Ascending.{IsAscending};
 ghost use Rattle.slab_laws.specs.Rows.{dart_rows};
@@ -7,6 +9,7 @@ ghost use Rattle.slab_laws.specs.SpansDrawn.{drawn};
 ghost use Rattle.dart_orbits.specs.Around.{source_placed, AreBySource};
 ghost use Rattle.dart_orbits.specs.Orbits.{AreOrbits};
 ghost use Rattle.dart_orbits.specs.Ways.{row_in};
+ghost use Rattle.overlay_sweep.specs.Cuts.{StandsWith, IsCutAt};
 ghost use Rattle.overlay_sweep.specs.EdgesUnder.{AreUnder};
 ghost use Rattle.overlay_sweep.specs.LabelsAbove.{known_at, label_over, AreLabelsAbove, AreLabelsBefore, IsRoundOf, IsLabelUnder};
 
@@ -136,14 +139,74 @@ fn source_of(darts: &[ListedDart], place: usize) -> usize
     }
 }
 
-// How many darts round their sources have one up to a vertex.
-fn count_upto(darts: &[ListedDart], around: &[usize], vertex: usize) -> usize
+// Whether the source of a dart comes no later than a vertex.
+fn is_upto(darts: &[ListedDart], place: usize, vertex: usize) -> bool
+    ensures { result ≡ leb (row_in darts.now place).source vertex }
+{
+    source_of(darts, place) <= vertex
+}
+
+fn stands_upto(darts: &[ListedDart], around: &[usize], index: usize, vertex: usize) -> bool
+    ensures { result ≡ true → StandsWith (λ k. leb (row_in darts.now k).source vertex) true around.now index }
+{
+    match around.get(index) {
+        Some(place) => is_upto(darts, *place, vertex),
+        None => false,
+    }
+}
+
+fn stands_beyond(darts: &[ListedDart], around: &[usize], index: usize, vertex: usize) -> bool
+    ensures { result ≡ true → StandsWith (λ k. leb (row_in darts.now k).source vertex) false around.now index }
+{
+    match around.get(index) {
+        Some(place) => !is_upto(darts, *place, vertex),
+        None => false,
+    }
+}
+
+// Whether those of sources up to the vertex end just before the index. Where none is, or all are, it says no.
+fn is_cut(darts: &[ListedDart], around: &[usize], index: usize, vertex: usize) -> bool
+    ensures { result ≡ true → IsCutAt (λ k. leb (row_in darts.now k).source vertex) around.now index }
+{
+    if index == 0 {
+        return false;
+    }
+    if !stands_upto(darts, around, index - 1, vertex) {
+        return false;
+    }
+    stands_beyond(darts, around, index, vertex)
+}
+
+// How many stand first and have sources up to the vertex.
+fn count_first(darts: &[ListedDart], around: &[usize], vertex: usize) -> usize {
+    around
+        .iter()
+        .take_while(|place| is_upto(darts, **place, vertex))
+        .count()
+}
+
+// Where those of sources up to the vertex end, which should be soon after the index; else by one search.
+fn end_upto(darts: &[ListedDart], around: &[usize], index: usize, vertex: usize) -> usize
+    requires { AreBySource darts.now around.now }
+    ensures within { result ≤ length around.now }
+    ensures cut { IsPartitionPoint (λ k. leb (row_in darts.now k).source vertex ≡ true) (λ k. leb (row_in darts.now k).source vertex ≡ false) around.now result }
+{
+    let (_, rest) = around.split_at(index.min(around.len()));
+    let end = index.saturating_add(count_first(darts, rest, vertex));
+    if is_cut(darts, around, end, vertex) {
+        return end;
+    }
+    around.partition_point(|place| is_upto(darts, *place, vertex))
+}
+
+// How many darts round their sources have one up to a vertex: those up to the index, and the next ones.
+fn count_upto(darts: &[ListedDart], around: &[usize], index: usize, vertex: usize) -> usize
     requires { AreBySource darts.now around.now }
     ensures within { result ≤ length around.now }
     ensures upto { (i : ℕ) → i < result → source_placed darts.now around.now i ≤ vertex }
     ensures beyond { (i : ℕ) → result ≤ i → i < length around.now → vertex < source_placed darts.now around.now i }
 {
-    around.partition_point(|place| source_of(darts, *place) <= vertex)
+    end_upto(darts, around, index, vertex)
 }
 
 /// Of each dart that goes forward the label of the face above it, from what is known above some edges: over any other edge the label
@@ -173,7 +236,7 @@ pub fn labels_above(
     labels.resize(orbits.darts.len(), 0)?;
     let mut from = 0;
     for vertex in 0..points.len() {
-        let to = count_upto(&orbits.darts, &orbits.around, vertex);
+        let to = count_upto(&orbits.darts, &orbits.around, from, vertex);
         label_round(
             points,
             edges,

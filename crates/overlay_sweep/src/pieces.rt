@@ -4,6 +4,7 @@ ghost use Rattle.plane_graphs.specs.Ascending.{IsAscending, Member};
 ghost use Rattle.sweep_graphs.specs.Edges.{ends_of, ends_cmp, stretch_cmp};
 ghost use Rattle.overlay_sweep.specs.PiecesAlong.{IsPieceAlong, IsAlongSome};
 
+use crate::curves::{count_along, is_along};
 use sweep_graphs::{EdgeEnds, Stretch};
 
 fn comes_before(stretch: &Stretch, edge: &EdgeEnds) -> bool
@@ -25,4 +26,22 @@ pub fn piece_along(stretches: &[Stretch], edge: &EdgeEnds) -> usize
 {
     let first = stretches.partition_point(|stretch| comes_before(stretch, edge));
     stretches[first].piece
+}
+
+// The same, where the first of these stretches should be at the place.
+pub(crate) fn piece_from(stretches: &[Stretch], place: usize, edge: &EdgeEnds) -> usize
+    requires ascend { IsAscending stretch_cmp stretches.now }
+    requires along { IsAlongSome stretches.now edge.now }
+    ensures { IsPieceAlong stretches.now edge.now result }
+{
+    match stretches.get(place) {
+        Some(stretch) if is_along(stretch, edge) => stretch.piece,
+        _ => piece_along(stretches, edge),
+    }
+}
+
+// Where the stretches along the next edge should begin. What a wrong place costs is time alone.
+pub(crate) fn place_after(stretches: &[Stretch], place: usize, edge: &EdgeEnds) -> usize {
+    let (_, rest) = stretches.split_at(place.min(stretches.len()));
+    place.saturating_add(count_along(rest, edge))
 }

@@ -3,7 +3,7 @@ use Rattle.std.proofs.Common.{◌≡◌, ℕ, ◌<◌, ◌&&◌, eqb, arith, ref
 use Rattle.std.specs.Ordering.{ordering_then, eq_by_cmp}
 use Rattle.std.specs.Cmp.{IsTotalOrder, then_total, on_total, nat_cmp_total, tied_itself}
 use Rattle.std.proofs.lemmas.Bool.{cases_lt}
-use Rattle.integers.proofs.Classes.{then_equal}
+use Rattle.integers.proofs.Classes.{then_equal, then_less}
 use Rattle.integers.proofs.Tests.{nat_exact, less_nat, number_ties, both_equal}
 use Rattle.exact_plane.specs.Point.{Point}
 use Rattle.exact_plane.specs.PointOrder.{point_cmp}
@@ -15,12 +15,6 @@ use Rattle.sweep_graphs.specs.declared.edges.EdgeEnds.{EdgeEnds}
 use Rattle.sweep_graphs.specs.declared.trace.Stretch.{Stretch}
 use Rattle.sweep_graphs.specs.Edges.{ends_cmp, stretch_cmp, edge_between}
 use Rattle.sweep_graphs.specs.Traces.{point_at, no_point}
-
--- what two orders, one after the other, tell
-pub then_less : (s t : Ordering) → ordering_then s t ≡ Less → (s ≡ Less) ⊎ ((s ≡ Equal) × (t ≡ Less))
-then_less Less t e = inl refl
-then_less Equal t e = inr (refl, e)
-then_less Greater t e = cc
 
 pub ends_cmp_total : IsTotalOrder ends_cmp
 ends_cmp_total = then_total (on_total (λ e. e.low) nat_cmp_total) (on_total (λ e. e.high) nat_cmp_total)

@@ -12,8 +12,8 @@ use Rattle.exact_plane.specs.PointOrder.{point_cmp}
 use Rattle.exact_plane.specs.PointOrderLaws.{point_cmp_total}
 use Rattle.exact_plane.proofs.Orders.{at_most_itself, less_at_most, at_most_both}
 use Rattle.slab_faces.proofs.OverUnder.{under_in, under_out}
-use Rattle.edges_below.specs.Highest.{IsSpanning, IsHighestBelow, none_below, highest}
-use Rattle.edges_below.specs.Levels.{IsSeen}
+use Rattle.edge_predicates.specs.Highest.{IsSpanning, IsHighestBelow, none_below, highest}
+use Rattle.edge_predicates.specs.Levels.{IsSeen}
 use Rattle.face_roots.proofs.BelowVertices.{reaching}
 use Rattle.face_roots.proofs.PointOrder.{before}
 use Rattle.exact_plane.specs.Span.{Span, IsSpan, LiesOn, IsAtMost}

@@ -1,9 +1,7 @@
 -- The edge directly below each vertex, by the open stretch that was told there.
-use Rattle.std.specs.Prelude.{◌≡◌, ◌<◌, ℕ, List, length, slice_index_or, Option, None, Some}
-use Rattle.std.specs.Ordering.{nat_cmp, ordering_then}
-use Rattle.std.specs.declared.cmp.Ordering.{Ordering}
+use Rattle.std.specs.Prelude.{◌≡◌, ◌<◌, ℕ, Bool, ◌&&◌, List, length, slice_index_or, Option, None, Some}
+use lib.Dec.{eqb}
 use Rattle.plane_graphs.specs.Ascending.{Member}
-use Rattle.sweep_graphs.specs.declared.below.ClosedStretch.{ClosedStretch}
 use Rattle.sweep_graphs.specs.declared.edges.EdgeEnds.{EdgeEnds}
 use Rattle.sweep_graphs.specs.declared.trace.OpenStretch.{OpenStretch}
 use Rattle.sweep_graphs.specs.declared.trace.Stretch.{Stretch}
@@ -14,26 +12,18 @@ use Rattle.sweep_graphs.specs.Edges.{ends_of}
 abbrev pub IsOpened : OpenStretch → Stretch → Type 0
 IsOpened o s = (s.low ≡ o.low) × (s.piece ≡ o.piece)
 
--- the stretch as it was told while it was open, with its upper vertex
-abbrev pub closed_of : Stretch → ClosedStretch
-closed_of s = record { start = record { low = s.low; piece = s.piece }; high = s.high }
-
--- open stretches go by their lower vertices, then by their pieces
-abbrev pub open_cmp : OpenStretch → OpenStretch → Ordering
-open_cmp o p = ordering_then (nat_cmp o.low p.low) (nat_cmp o.piece p.piece)
-
--- closed ones go as they were told while they were open, then by their upper vertices
-abbrev pub closed_cmp : ClosedStretch → ClosedStretch → Ordering
-closed_cmp c d = ordering_then (open_cmp c.start d.start) (nat_cmp c.high d.high)
+-- whether it is
+abbrev pub was_open : OpenStretch → Stretch → Bool
+was_open o s = eqb s.low o.low && eqb s.piece o.piece
 
 -- where a stretch of the list was told as o, the result is the edge of one that was
-abbrev pub IsEdgeOfOpen : List ClosedStretch → OpenStretch → Option EdgeEnds → Type 0
-IsEdgeOfOpen cs o r = (c : ClosedStretch) → Member c cs → c.start ≡ o → (d : ClosedStretch) × Member d cs × (d.start ≡ o) × (r ≡ Some (record { low = d.start.low; high = d.high }))
+abbrev pub IsEdgeOfOpen : List Stretch → OpenStretch → Option EdgeEnds → Type 0
+IsEdgeOfOpen ss o r = (s : Stretch) → Member s ss → IsOpened o s → (u : Stretch) × Member u ss × IsOpened o u × (r ≡ Some (ends_of u))
 
 -- the same of a vertex, below which there may be none
-abbrev pub IsEdgeUnder : List ClosedStretch → Option OpenStretch → Option EdgeEnds → Type 0
-IsEdgeUnder cs None r = r ≡ None
-IsEdgeUnder cs (Some o) r = IsEdgeOfOpen cs o r
+abbrev pub IsEdgeUnder : List Stretch → Option OpenStretch → Option EdgeEnds → Type 0
+IsEdgeUnder ss None r = r ≡ None
+IsEdgeUnder ss (Some o) r = IsEdgeOfOpen ss o r
 
 -- what is told below a vertex is one of the stretches
 abbrev pub AreClosed : Trace → Type 0

@@ -9,7 +9,7 @@ use Rattle.plane_graphs.specs.Graph.{graph, edges, mark_cmp, vertices}
 use Rattle.plane_graphs.specs.Piece.{Present}
 use Rattle.present_graphs.specs.Spans.{span_of_piece}
 use Rattle.slab_laws.specs.Text.{skeleton}
-use Rattle.edges_below.specs.Highest.{IsHighestBelow}
+use Rattle.edge_predicates.specs.Highest.{IsHighestBelow}
 use Rattle.sweep_events.specs.Places.{AreSpans}
 use Rattle.sweep_graphs.specs.declared.edges.EdgeEnds.{EdgeEnds}
 use Rattle.sweep_graphs.specs.declared.trace.OpenStretch.{OpenStretch}

@@ -1,81 +1,117 @@
-ghost use Rattle.std.specs.Prelude.{◌≡◌, map, IfOk};
-ghost use Rattle.std.specs.Ordering.{is_lt};
-ghost use Rattle.plane_graphs.specs.Ascending.{ascending, IsAscending};
-ghost use Rattle.sweep_graphs.specs.EdgesBelow.{closed_of, open_cmp, closed_cmp, IsEdgeOfOpen, IsEdgeUnder, AreClosed, AreEdgesUnder};
+ghost use Rattle.std.specs.Prelude.{◌≡◌, ◌<◌, length, slice_index_or, slice_set, None, IfOk};
+ghost use Rattle.std.specs.List.{find};
+ghost use Rattle.sweep_graphs.specs.Edges.{ends_of};
+ghost use Rattle.sweep_graphs.specs.EdgesBelow.{was_open, IsEdgeOfOpen, IsEdgeUnder, AreClosed, AreEdgesUnder};
 
-use crate::edges::EdgeEnds;
+use crate::edges::{EdgeEnds, edge_along};
 use crate::trace::{OpenStretch, Stretch, Trace};
 use no_memory::NoMemory;
-use std::alloc::{AllocError, Global};
+use std::alloc::Global;
 
-// A stretch, as it was told while it was open, with its upper vertex.
-#[derive(Clone, Copy, PartialEq, Eq, PartialOrd, Ord)]
-pub(crate) struct ClosedStretch {
-    pub(crate) start: OpenStretch,
-    pub(crate) high: usize,
-}
-
-fn closed(stretch: &Stretch) -> ClosedStretch
-    ensures { result ≡ closed_of stretch.now }
+// Whether a stretch is the one that was told while it was open.
+fn was_open(stretch: &Stretch, under: &OpenStretch) -> bool
+    ensures { result ≡ was_open under.now stretch.now }
 {
-    let start = OpenStretch {
-        low: stretch.low,
-        piece: stretch.piece,
-    };
-    ClosedStretch {
-        start,
-        high: stretch.high,
-    }
+    stretch.low == under.low && stretch.piece == under.piece
 }
 
-fn all_closed(alloc: Global, stretches: &[Stretch]) -> Result<Vec<ClosedStretch>, AllocError>
-    ensures { IfOk result (λ v. v.items ≡ map closed_of stretches.now) }
+// That stretch, found by going through all.
+fn find_open(stretches: &[Stretch], under: &OpenStretch) -> Option<Stretch>
+    ensures { result ≡ find (was_open under.now) stretches.now }
 {
     stretches
         .iter()
-        .map(|stretch| closed(stretch))
-        .collect(alloc)
+        .copied()
+        .find(|stretch| was_open(stretch, under))
 }
 
-// Brings them into the order in which they are looked for, each once.
-fn arrange_closed(stretches: &mut Vec<ClosedStretch>)
-    ensures { stretches.new.items ≡ ascending closed_cmp stretches.old.items }
-{
-    stretches.sort_unstable();
-    stretches.dedup();
-}
-
-fn opens_before(stretch: &ClosedStretch, under: &OpenStretch) -> bool
-    ensures { result ≡ is_lt (open_cmp stretch.now.start under.now) }
-{
-    stretch.start < *under
-}
-
-// The edge of an open stretch, where it is among the stretches.
-fn edge_of_open(stretches: &[ClosedStretch], under: &OpenStretch) -> Option<EdgeEnds>
-    requires { IsAscending closed_cmp stretches.now }
+fn found_edge(stretches: &[Stretch], under: &OpenStretch) -> Option<EdgeEnds>
     ensures { IsEdgeOfOpen stretches.now under.now result }
 {
-    let place = stretches.partition_point(|stretch| opens_before(stretch, under));
-    let stretch = stretches.get(place)?;
-    Some(EdgeEnds {
-        low: stretch.start.low,
-        high: stretch.high,
-    })
+    let stretch = find_open(stretches, under)?;
+    Some(edge_along(&stretch))
 }
 
-// The edge of what is below a vertex.
-fn edge_under(stretches: &[ClosedStretch], below: &Option<OpenStretch>) -> Option<EdgeEnds>
-    requires { IsAscending closed_cmp stretches.now }
-    ensures { IsEdgeUnder stretches.now below.now result }
+// The edge of an open stretch, where it is among the stretches: it should be at the place.
+fn edge_of_open(stretches: &[Stretch], place: usize, under: &OpenStretch) -> Option<EdgeEnds>
+    ensures { IsEdgeOfOpen stretches.now under.now result }
 {
-    match below {
-        Some(under) => edge_of_open(stretches, under),
+    match stretches.get(place) {
+        Some(stretch) if was_open(stretch, under) => Some(edge_along(stretch)),
+        _ => found_edge(stretches, under),
+    }
+}
+
+// How many places a table by pieces has.
+fn count_pieces(stretches: &[Stretch]) -> usize {
+    let mut count = 0;
+    for stretch in stretches {
+        if stretch.piece >= count {
+            count = stretch.piece.saturating_add(1);
+        }
+    }
+    count
+}
+
+// The place that is noted of a piece.
+fn place_of(places: &[usize], piece: usize) -> usize {
+    match places.get(piece) {
+        Some(place) => *place,
+        None => 0,
+    }
+}
+
+// The edge of what is below a vertex, where of each piece the place of its stretch that ends first after the vertex is noted.
+fn edge_under(
+    stretches: &[Stretch],
+    places: &[usize],
+    below: &[Option<OpenStretch>],
+    vertex: usize,
+) -> Option<EdgeEnds>
+    requires { vertex < length below.now }
+    ensures { IsEdgeUnder stretches.now (slice_index_or below.now vertex None) result }
+{
+    match &below[vertex] {
+        Some(under) => edge_of_open(stretches, place_of(places, under.piece), under),
         None => None,
     }
 }
 
-/// Of each vertex the edge directly below it.
+fn set_edge(edges: &mut Vec<Option<EdgeEnds>>, vertex: usize, edge: Option<EdgeEnds>)
+    requires { vertex < length edges.old.items }
+    ensures { edges.new.items ≡ slice_set edges.old.items vertex edge }
+{
+    edges[vertex] = edge;
+}
+
+fn ends_at(stretches: &[Stretch], place: usize, vertex: usize) -> bool {
+    match stretches.get(place) {
+        Some(stretch) => stretch.high == vertex,
+        None => false,
+    }
+}
+
+fn note_place(places: &mut Vec<usize>, stretches: &[Stretch], place: usize) {
+    if let Some(stretch) = stretches.get(place) {
+        if let Some(noted) = places.get_mut(stretch.piece) {
+            *noted = place;
+        }
+    }
+}
+
+// Notes the places of the stretches that end at a vertex, going back from a place, and gives the one where it stops. What a wrong
+// note costs is time alone.
+fn note_ends(places: &mut Vec<usize>, stretches: &[Stretch], from: usize, vertex: usize) -> usize {
+    let mut place = from;
+    'ends: while place > 0 && ends_at(stretches, place - 1, vertex) {
+        place -= 1;
+        note_place(places, stretches, place);
+    }
+    place
+}
+
+/// Of each vertex the edge directly below it. It goes back from the last vertex, since the stretch below one is that of its piece
+/// which ends first after it: each stretch is met once.
 ///
 /// # Errors
 ///
@@ -84,11 +120,20 @@ pub fn edges_below(alloc: Global, trace: &Trace) -> Result<Vec<Option<EdgeEnds>>
     requires { AreClosed trace.now }
     ensures { IfOk result (λ v. AreEdgesUnder trace.now v.items) }
 {
-    let mut stretches = all_closed(alloc, trace.stretches.as_slice())?;
-    arrange_closed(&mut stretches);
+    let stretches = trace.stretches.as_slice();
+    let below = trace.below.as_slice();
+    let mut places = Vec::new(alloc);
+    places.resize(count_pieces(stretches), 0)?;
     let mut edges = Vec::new(alloc);
-    for below in trace.below.as_slice() {
-        edges.push(edge_under(&stretches, below))?;
+    let count = below.len();
+    edges.resize(count, None)?;
+    let mut from = stretches.len();
+    let mut vertex = count;
+    'back: while vertex > 0 {
+        vertex -= 1;
+        let edge = edge_under(stretches, &places, below, vertex);
+        set_edge(&mut edges, vertex, edge);
+        from = note_ends(&mut places, stretches, from, vertex);
     }
     Ok(edges)
 }

@@ -16,7 +16,7 @@ pub struct EdgeEnds {
 }
 
 // The edge that a stretch runs along.
-fn edge_along(stretch: &Stretch) -> EdgeEnds
+pub(crate) fn edge_along(stretch: &Stretch) -> EdgeEnds
     ensures { result ≡ ends_of stretch.now }
 {
     EdgeEnds {

@@ -1,22 +1,29 @@
-use Rattle.std.proofs.Common.{List, map, ap, ◌∙◌, sym, subst, None}
-use Rattle.std.specs.Prelude.{slice_index_or}
-use Rattle.plane_graphs.specs.Ascending.{ascending, IsAscending}
-use Rattle.sweep_graphs.specs.declared.below.ClosedStretch.{ClosedStretch}
-use Rattle.sweep_graphs.specs.EdgesBelow.{closed_of, closed_cmp, IsEdgeUnder}
-use Rattle.sweep_graphs.proofs.OpenStretches.{in_order, none_yet, one_more, all_under}
+use Rattle.std.proofs.Common.{◌≡◌, ◌-◌, length, ap, ◌∙◌, arith}
+use Rattle.sweep_graphs.proofs.OpenStretches.{none_yet, one_more, all_under}
 use Rattle.sweep_graphs.proofs.below.edges_below.Goals as goal
 
-pub loop-below-init : goal.loop-below-init
-loop-below-init c =
-    let is = c.arrange_closed.ensures ∙ ap (ascending closed_cmp) (c.in_ok-stretches.ensures ∙ ap (map closed_of) c.as_slice.ensures) in
-    (is, none_yet c.args.trace.now c.arrange_closed.new.stretches.items is c.new-edges.result.items c.new-edges.ensures.items)
+pub back-init : goal.back-init
+back-init c = none_yet c.args.trace.now c.as_slice-stretches.result.now (length c.as_slice-below.result.now) c.resize-2.new.self.items (let a = c.in_ok-resize-2.ensures.len in omega arith) (ap length c.as_slice-below.ensures)
 
-pub edge_under-requires : goal.edge_under-requires
-edge_under-requires c = subst (IsAscending closed_cmp) (sym c.deref.ensures.value) (in_order c.args.trace.now c.arrange_closed.new.stretches.items c.loop-below.invariant.0)
+pub edge_under-edge-requires : goal.edge_under-edge-requires
+edge_under-edge-requires c =
+    let w = c.back.invariant.within in
+    let t = c.back-test.true in
+    let e : length c.as_slice-below.result.now ≡ length c.args.trace.now.below = ap length c.as_slice-below.ensures in
+    omega arith
 
-pub loop-below-preserved : goal.loop-below-preserved
-loop-below-preserved c =
-    (c.loop-below.invariant.0, one_more c.args.trace.now c.arrange_closed.new.stretches.items c.loop-below.invariant.0 c.loop-below.below-index c.as_slice-below-items.result.now None c.loop-below.edges.items c.push.new.self.items c.edge_under.result c.as_slice-below-items.ensures c.loop-below-test.true (subst (λ (zs : List ClosedStretch). IsEdgeUnder zs (slice_index_or c.as_slice-below-items.result.now c.loop-below.below-index None) c.edge_under.result) c.deref.ensures.value c.edge_under.ensures) c.in_ok-push.ensures.items c.loop-below.invariant.1)
+pub set_edge-requires : goal.set_edge-requires
+set_edge-requires c =
+    let w = c.back.invariant.within in
+    let n = c.back.invariant.counted in
+    let t = c.back-test.true in
+    omega arith
+
+pub back-preserved : goal.back-preserved
+back-preserved c =
+    let w = c.back.invariant.within in
+    let t = c.back-test.true in
+    one_more c.args.trace.now c.as_slice-stretches.result.now c.back.vertex (c.back.vertex - 1) c.as_slice-below.result.now c.back.edges.items c.set_edge.new.edges.items c.edge_under-edge.result (omega arith) (omega arith) c.as_slice-below.ensures c.edge_under-edge.ensures c.set_edge.ensures c.back.invariant
 
 pub returns : goal.returns
-returns c = all_under c.args.trace.now c.arrange_closed.new.stretches.items c.loop-below.invariant.0 c.loop-below.below-index c.as_slice-below-items.result.now c.loop-below.edges.items c.requires c.as_slice-below-items.ensures c.loop-below-test.false c.loop-below.invariant.1
+returns c = all_under c.args.trace.now c.as_slice-stretches.result.now c.back.vertex c.back.edges.items c.requires c.as_slice-stretches.ensures (let t = c.back-test.false in omega arith) c.back.invariant

@@ -1,8 +1,9 @@
-use Rattle.std.proofs.Common.{◌≡◌, map}
-use Rattle.plane_graphs.specs.Ascending.{ascending}
-use Rattle.sweep_graphs.specs.EdgesBelow.{closed_of, closed_cmp}
-use Rattle.sweep_graphs.proofs.OpenStretches.{AreUnderUpto}
+use Rattle.std.proofs.Common.{◌-◌}
+use Rattle.sweep_graphs.proofs.OpenStretches.{AreUnderFrom}
 use Rattle.sweep_graphs.proofs.below.edges_below.Given as goal
 
-abbrev pub invariant-loop-below : goal.invariant-loop-below
-invariant-loop-below l = (is : l.stretches.items ≡ ascending closed_cmp (map closed_of l.trace.stretches)) × AreUnderUpto l.trace l.stretches.items is l.below-index l.edges.items
+abbrev pub invariant-back : goal.invariant-back
+invariant-back l = AreUnderFrom l.trace l.stretches l.vertex l.edges.items
+
+abbrev pub decreases-back : goal.decreases-back
+decreases-back l = l.vertex
