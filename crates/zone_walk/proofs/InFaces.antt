@@ -27,8 +27,8 @@ use Rattle.sound_changes.proofs.SplitCases.{edge_of_ends, ahead_by}
 use Rattle.counted_looks.specs.Boundaries as walks
 use Rattle.counted_looks.specs.declared.boundary_part.BoundaryPart.{BoundaryPart}
 use Rattle.counted_looks.specs.declared.boundary_part.BoundaryPart.TheVariants as walked
-use Rattle.open_parts.specs.Parts.{IsClearBetween, IsFaceBetween, TellsFace, IsOnBoundary}
-use Rattle.open_parts.proofs.PartLaws.{parts_have_one_face, first_reached_is_on_boundary, faces_are_told}
+use Rattle.zone_walk.specs.Parts.{IsClearBetween, IsFaceBetween, TellsFace, IsOnBoundary}
+use Rattle.zone_walk.proofs.PartLaws.{parts_have_one_face, first_reached_is_on_boundary, faces_are_told}
 use Rattle.dcel_records.specs.Spots.{IsInFace}
 use Rattle.dcel_records.specs.declared.spot.Spot.{Spot}
 use Rattle.dcel_records.specs.declared.spot.Spot.TheVariants.{Face}

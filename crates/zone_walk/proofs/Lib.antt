@@ -3,6 +3,7 @@ pub mod LineCrossings
 pub mod InPlane
 pub mod Passing
 pub mod Entries
+pub mod FoundPoints
 pub mod Courses
 pub mod Aheads
 pub mod Stretches
@@ -22,3 +23,12 @@ pub mod Counted
 pub mod Zoned
 pub mod EdgeLooks
 pub mod OutsideBox
+pub mod Between
+pub mod MorePoints
+pub mod FromFaces
+pub mod SplitThere
+pub mod Turn
+pub mod FromEdges
+pub mod FromVertices
+pub mod OnTheWay
+pub mod PartLaws

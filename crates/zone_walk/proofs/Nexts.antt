@@ -28,7 +28,8 @@ use Rattle.slab_laws.specs.FacesSound.{IsSound}
 use Rattle.slab_laws.specs.Sound.{IsGraphSound}
 use Rattle.slab_laws.specs.View.{View, Faces, HasVertex, HasFace, face_id, point_in, target_in}
 use Rattle.counted_looks.specs.Boundaries.{IsOnBoundary, boundary_size}
-use Rattle.open_parts.proofs.PartLaws.{faces_are_told}
+use Rattle.zone_walk.specs.FoundPoints.{entries_in, IsFirstOf}
+use Rattle.zone_walk.proofs.PartLaws.{faces_are_told}
 use Rattle.counted_looks.specs.declared.boundary_part.BoundaryPart.{BoundaryPart}
 use Rattle.counted_looks.specs.declared.boundary_part.BoundaryPart.TheVariants.{Dart, Isolated}
 use Rattle.dcel_records.specs.declared.spot.Spot.{Spot}
@@ -37,7 +38,7 @@ use Rattle.dcel_records.specs.declared.spot.Met.TheVariants.{Nothing}
 use Rattle.dcel_records.specs.Spots.{IsInFace}
 use Rattle.face_location.specs.Spots.{IsSpotOf}
 use Rattle.locate_naive.proofs.Within.{in_dart}
-use Rattle.open_parts.specs.Parts.{TellsFace}
+use Rattle.zone_walk.specs.Parts.{TellsFace}
 use Rattle.sound_views.proofs.ForwardDarts.{target_has}
 use Rattle.zone_walk.specs.Searches.{IsThere, IsFoundAfter, AreFoundAfter, IsPartTaken, IsSearchFrom, HasSeen}
 use Rattle.zone_walk.specs.Walk.{IsAhead, IsSpotStretch, IsSearchAt, lesser}
@@ -84,10 +85,6 @@ module _ (q : Point) where
   none_there es e m = clash (is_there q es m) (ap is_some e)
 
 -- ---- the first entry
-pub kept_rest : (q : Point) (at : Spot) (rest : Entries) (r : Point) → r ≢ q → Member r (keys_of ((q, at) ∷ rest)) → Member r (keys_of rest)
-kept_rest q at rest r d (inl e) = absurd (d e)
-kept_rest q at rest r d (inr m) = m
-
 -- where a map gives no first entry, it has none
 pub no_entries : {X : Type 0} (r : Option (Point × X)) (es : List (Point × X)) → r ≡ None → (IsSome r ↔ (0 < length es)) → es ≡ []
 no_entries r [] e h = refl
@@ -108,11 +105,11 @@ module _ (q : Point) (at : Spot) (es : Entries) (ascend : IsStrictlySortedBy poi
 
 -- ---- from one meeting point to the next
 module _ (v : View) (f : Faces) (g : Segment) (l m : Search) (p q : Point) (a : IsSearchAt v f g p l) (n : IsNextMeeting v g p q) (segment : m.segment ≡ l.segment) (here : m.here ≡ q) (visited : m.visited ≡ l.visited) (whole : m.whole ≡ l.whole) (bounds : m.bounds ≡ l.bounds) where
-  module _ (only : (r : Point) (at : Spot) → Member (r, at) m.found.entries → Member (r, at) l.found.entries × (r ≢ q)) (kept : (r : Point) → Member r (keys_of l.found.entries) → r ≢ q → Member r (keys_of m.found.entries)) where
-    pub found_before : AreFoundAfter v g p l.found.entries
-    found_before = subst (λ (z : Segment). AreFoundAfter v z p l.found.entries) a.segment (subst (λ (z : Point). AreFoundAfter v l.segment z l.found.entries) a.here a.search.found)
+  module _ (only : (r : Point) (at : Spot) → Member (r, at) (entries_in m.found) → Member (r, at) (entries_in l.found) × (r ≢ q)) (kept : (r : Point) → Member r (keys_of (entries_in l.found)) → r ≢ q → Member r (keys_of (entries_in m.found))) where
+    pub found_before : AreFoundAfter v g p (entries_in l.found)
+    found_before = subst (λ (z : Segment). AreFoundAfter v z p (entries_in l.found)) a.segment (subst (λ (z : Point). AreFoundAfter v l.segment z (entries_in l.found)) a.here a.search.found)
 
-    found_after : AreFoundAfter v g q m.found.entries
+    found_after : AreFoundAfter v g q (entries_in m.found)
     found_after r at i =
         let w = only r at i in
         let h = found_before r at w.0 in
@@ -140,12 +137,12 @@ module _ (v : View) (f : Faces) (g : Segment) (l m : Search) (p q : Point) (a : 
         spanned = whole ∙ a.search.spanned ∙ ap span_of_segment (sym segment);
         boxed = bounds ∙ a.search.boxed ∙ ap bounding_box (sym whole);
         stands = subst (λ (z : Segment). Contains (meeting_points v z) m.here) (sym same_segment) (subst (Contains (meeting_points v g)) (sym here) n.meets);
-        found = subst (λ (z : Segment). AreFoundAfter v z m.here m.found.entries) (sym same_segment) (subst (λ (z : Point). AreFoundAfter v g z m.found.entries) (sym here) found_after);
+        found = subst (λ (z : Segment). AreFoundAfter v z m.here (entries_in m.found)) (sym same_segment) (subst (λ (z : Point). AreFoundAfter v g z (entries_in m.found)) (sym here) found_after);
         kept = λ r i. i;
       };
       segment = same_segment;
       here = here;
-      visited = λ b h t o. part_after l.found.entries m.found.entries kept t (a.visited b (ap (λ z. contains nat_cmp z b.0) (sym visited) ∙ h) t o);
+      visited = λ b h t o. part_after (entries_in l.found) (entries_in m.found) kept t (a.visited b (ap (λ z. contains nat_cmp z b.0) (sym visited) ∙ h) t o);
     }
 
 -- ---- along an edge
@@ -204,24 +201,26 @@ module _ (v : View) (f : Faces) (S : IsSound v f) (g : Segment) (c : IsCourse g)
       nothing q n missing = nothing_met v f S g c p proper on before a none tells q n es taken missing
 
       -- the first that is found
-      pub first_is_next : (q : Point) (at : Spot) (rest : Entries) → es ≡ (q, at) ∷ rest → ((r : Point) → Member r (keys_of rest) → Lt q r) → IsNextMeeting v g p q
-      first_is_next q at rest e first =
-          let h = found q at (subst (λ (xs : Entries). Member (q, at) xs) (sym e) (inl refl)) in
+      pub first_is_next : (next : Meeting) (rest : Entries) → IsFirstOf es rest next → IsNextMeeting v g p next.point
+      first_is_next next rest first =
+          let h = found q next.spot first.there in
           record { meets = h.meets; later = h.later; none_between = λ r m k. not_true (precedes r q) (λ l. never h r m (lt_out p r k) (lt_out r q l)) }
         where
-          not_before : (z : Point) → Lt z q → Member z (keys_of ((q, at) ∷ rest)) → ⊥
-          not_before z l (inl i) = lt_never (subst (λ (x : Point). Lt x q) i l)
-          not_before z l (inr m) = lt_never (lt_trans l (first z m))
+          q : Point
+          q = next.point
+
+          not_before : (z : Point) → Lt z q → Member z (keys_of es) → ⊥
+          not_before z l m = lt_never (lt_trans l (lt_out q z (first.before z (first.kept z m (λ e. lt_never (subst (λ (x : Point). Lt x q) e l))))))
 
           -- the next one is no later than another later one
           no_later : (z r : Point) → IsNextMeeting v g p z → Contains (meeting_points v g) r → Lt p r → Lt r q → Lt z q
           no_later z r n m k l = le_lt_lt (at_most z r (n.none_between r m (lt_in k))) l
 
-          never : IsFoundAfter v g p q at → (r : Point) → Contains (meeting_points v g) r → Lt p r → Lt r q → ⊥
+          never : IsFoundAfter v g p q next.spot → (r : Point) → Contains (meeting_points v g) r → Lt p r → Lt r q → ⊥
           never h r m k l =
               let z = next_one in
               let b = no_later z.0 r z.1 m k l in
-              let i = nothing z.0 z.1 (λ x. not_before z.0 b (subst (λ (xs : Entries). Member z.0 (keys_of xs)) e x)) in
+              let i = nothing z.0 z.1 (λ x. not_before z.0 b x) in
               let u = alone_is_upper v s g c p on z.0 z.1 i in
               (meets_lies v s g c q (told v s g c q h.meets)).upto.never (subst (λ (x : Point). Lt x q) u b)
 
@@ -234,15 +233,15 @@ module _ (v : View) (f : Faces) (S : IsSound v f) (g : Segment) (c : IsCourse g)
           (subst (IsNextMeeting v g p) u z.1, subst (λ (x : Point). IsSpotOf v f x (Face a)) u (face_at v f S g c p proper on before a none tells z.0 z.1 h))
 
 -- ---- one more face visited
-module _ (v : View) (f : Faces) (l m n : Search) (a : IsSearchAt v f l.segment l.here l) (face : FaceId) (ready : IsSearchFrom v l m) (seen : (t : BoundaryPart) → IsOnBoundary v f face t → HasSeen v m t) (failed : m.failed ≡ false) (segment : n.segment ≡ m.segment) (here : n.here ≡ m.here) (whole : n.whole ≡ m.whole) (bounds : n.bounds ≡ m.bounds) (entries : n.found.entries ≡ m.found.entries) (more : (b : ℕ) → contains nat_cmp n.visited b ≡ cond (is_eq (nat_cmp face.0 b)) true (contains nat_cmp m.visited b)) where
-  taken_now : (t : BoundaryPart) → IsOnBoundary v f face t → IsPartTaken v l.segment l.here m.found.entries t
+module _ (v : View) (f : Faces) (l m n : Search) (a : IsSearchAt v f l.segment l.here l) (face : FaceId) (ready : IsSearchFrom v l m) (seen : (t : BoundaryPart) → IsOnBoundary v f face t → HasSeen v m t) (failed : m.failed ≡ false) (segment : n.segment ≡ m.segment) (here : n.here ≡ m.here) (whole : n.whole ≡ m.whole) (bounds : n.bounds ≡ m.bounds) (entries : (entries_in n.found) ≡ (entries_in m.found)) (more : (b : ℕ) → contains nat_cmp n.visited b ≡ cond (is_eq (nat_cmp face.0 b)) true (contains nat_cmp m.visited b)) where
+  taken_now : (t : BoundaryPart) → IsOnBoundary v f face t → IsPartTaken v l.segment l.here (entries_in m.found) t
   taken_now t o =
-      subst (λ (z : Segment). IsPartTaken v z l.here m.found.entries t) ready.one.segment
-      (subst (λ (z : Point). IsPartTaken v m.segment z m.found.entries t) ready.one.here (seen t o failed))
+      subst (λ (z : Segment). IsPartTaken v z l.here (entries_in m.found) t) ready.one.segment
+      (subst (λ (z : Point). IsPartTaken v m.segment z (entries_in m.found) t) ready.one.here (seen t o failed))
 
-  taken_by : (b : FaceId) (z : Bool) → is_eq (nat_cmp face.0 b.0) ≡ z → cond z true (contains nat_cmp m.visited b.0) ≡ true → (t : BoundaryPart) → IsOnBoundary v f b t → IsPartTaken v l.segment l.here m.found.entries t
+  taken_by : (b : FaceId) (z : Bool) → is_eq (nat_cmp face.0 b.0) ≡ z → cond z true (contains nat_cmp m.visited b.0) ≡ true → (t : BoundaryPart) → IsOnBoundary v f b t → IsPartTaken v l.segment l.here (entries_in m.found) t
   taken_by b true i h t o = taken_now t (subst (λ (c : FaceId). IsOnBoundary v f c t) (ap face_id (sym (same_number face.0 b.0 i))) o)
-  taken_by b false i h t o = part_kept v l.segment l.here l.found.entries m.found.entries ready.kept t (a.visited b (ap (λ z. contains nat_cmp z b.0) (sym ready.one.visited) ∙ h) t o)
+  taken_by b false i h t o = part_kept v l.segment l.here (entries_in l.found) (entries_in m.found) ready.kept t (a.visited b (ap (λ z. contains nat_cmp z b.0) (sym ready.one.visited) ∙ h) t o)
 
   pub visited_one : IsSearchAt v f l.segment l.here n
   visited_one = record {
@@ -254,7 +253,7 @@ module _ (v : View) (f : Faces) (l m n : Search) (a : IsSearchAt v f l.segment l
       spanned = whole ∙ ready.spanned ∙ ap span_of_segment (sym segment);
       boxed = bounds ∙ ready.boxed ∙ ap bounding_box (sym whole);
       stands = subst (λ (z : Segment). Contains (meeting_points v z) n.here) (sym segment) (subst (Contains (meeting_points v m.segment)) (sym here) ready.stands);
-      found = subst (λ (z : Segment). AreFoundAfter v z n.here n.found.entries) (sym segment) (subst (λ (z : Point). AreFoundAfter v m.segment z n.found.entries) (sym here) (subst (AreFoundAfter v m.segment m.here) (sym entries) ready.found));
+      found = subst (λ (z : Segment). AreFoundAfter v z n.here (entries_in n.found)) (sym segment) (subst (λ (z : Point). AreFoundAfter v m.segment z (entries_in n.found)) (sym here) (subst (AreFoundAfter v m.segment m.here) (sym entries) ready.found));
       kept = λ r i. i;
     };
     segment = segment ∙ ready.one.segment;

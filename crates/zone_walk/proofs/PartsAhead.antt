@@ -29,8 +29,8 @@ use Rattle.rotation_order.specs.declared.places.Place.{Place}
 use Rattle.rotation_order.specs.declared.places.Place.TheVariants.{Between, Bare}
 use Rattle.edge_link.proofs.DirectionPlaces.{place_to_point}
 use Rattle.locate_naive.proofs.Within.{dart_in_out}
-use Rattle.open_parts.specs.Parts.{TellsFace, IsOnSide}
-use Rattle.open_parts.specs.Parts.TellsFace.{at_vertex, in_edge, in_face}
+use Rattle.zone_walk.specs.Parts.{TellsFace, IsOnSide}
+use Rattle.zone_walk.specs.Parts.TellsFace.{at_vertex, in_edge, in_face}
 use Rattle.face_steps.specs.VertexSteps.{IsFaceRound}
 use Rattle.dcel_records.specs.Spots.{IsInFace}
 use Rattle.zone_walk.specs.Walk.{IsAhead}

@@ -26,6 +26,7 @@ use Rattle.counted_looks.specs.declared.boundary_part.BoundaryPart.TheVariants.{
 use Rattle.dcel_records.specs.declared.spot.Spot.{Spot}
 use Rattle.dcel_records.specs.declared.spot.Spot.TheVariants.{Vertex, Edge}
 use Rattle.sound_views.proofs.ForwardDarts.{is_behind, target_has}
+use Rattle.zone_walk.specs.FoundPoints.{entries_in}
 use Rattle.zone_walk.specs.Searches.{AreKept, IsOnEdge, IsThere, AreFoundAfter, IsPartTaken, IsOneSearch, IsSearchFrom, HasSeen, passes_here, points_of_meet}
 use Rattle.zone_walk.specs.Sights.{IsDartMet, IsVertexMet, span_in, is_on_span, meet_between}
 use Rattle.zone_walk.specs.declared.edge_points.CommonPoints.{CommonPoints}
@@ -69,15 +70,15 @@ pub part_kept : (v : View) (s : Segment) (here : Point) (es fs : List (Point × 
 part_kept v s here es fs k (Dart d) h = λ p o c l. k p (h p o c l)
 part_kept v s here es fs k (Isolated w) h = λ c l. k (point_in v w) (h c l)
 
-pub still_seen : (v : View) (k l : Search) → IsOneSearch k l → AreKept k.found.entries l.found.entries → (t : BoundaryPart) → HasSeen v k t → HasSeen v l t
+pub still_seen : (v : View) (k l : Search) → IsOneSearch k l → AreKept (entries_in k.found) (entries_in l.found) → (t : BoundaryPart) → HasSeen v k t → HasSeen v l t
 still_seen v k l one kept t h failed =
-    subst (λ (z : Segment). IsPartTaken v z l.here l.found.entries t) (sym one.segment)
-    (subst (λ (z : Point). IsPartTaken v k.segment z l.found.entries t) (sym one.here)
-    (part_kept v k.segment k.here k.found.entries l.found.entries kept t (h (one.failed failed))))
+    subst (λ (z : Segment). IsPartTaken v z l.here (entries_in l.found) t) (sym one.segment)
+    (subst (λ (z : Point). IsPartTaken v k.segment z (entries_in l.found) t) (sym one.here)
+    (part_kept v k.segment k.here (entries_in k.found) (entries_in l.found) kept t (h (one.failed failed))))
 
 -- what one look takes
 abbrev TakesOnly : View → Search → Search → (Point → Type 0) → Type 0
-TakesOnly v k l P = (p : Point) (at : Spot) → Member (p, at) l.found.entries → Member (p, at) k.found.entries ⊎ (P p × IsThere v p at × (precedes k.here p ≡ true))
+TakesOnly v k l P = (p : Point) (at : Spot) → Member (p, at) (entries_in l.found) → Member (p, at) (entries_in k.found) ⊎ (P p × IsThere v p at × (precedes k.here p ≡ true))
 
 pub both_takes : (v : View) (P Q R : Point → Type 0) (k l m : Search) → IsOneSearch k l → TakesOnly v k l P → TakesOnly v l m Q → ((p : Point) → P p → R p) → ((p : Point) → Q p → R p) → TakesOnly v k m R
 both_takes v P Q R k l m one f g a b p at i = elim (g p at i) [
@@ -85,7 +86,7 @@ both_takes v P Q R k l m one f g a b p at i = elim (g p at i) [
   | inl n ↦ elim (f p at n) [ inl o ↦ inl o | inr w ↦ inr (a p w.0, w.1, w.2) ]
 ]
 
-pub goes_on : (v : View) (P : Point → Type 0) (o k l : Search) → IsSearchFrom v o k → IsOneSearch k l → AreKept k.found.entries l.found.entries → ((p : Point) → P p → Contains (meeting_points v k.segment) p) → TakesOnly v k l P → IsSearchFrom v o l
+pub goes_on : (v : View) (P : Point → Type 0) (o k l : Search) → IsSearchFrom v o k → IsOneSearch k l → AreKept (entries_in k.found) (entries_in l.found) → ((p : Point) → P p → Contains (meeting_points v k.segment) p) → TakesOnly v k l P → IsSearchFrom v o l
 goes_on v P o k l h one kept sound only = record {
   one = one_on o k l h.one one;
   sound = h.sound;
@@ -95,10 +96,10 @@ goes_on v P o k l h one kept sound only = record {
   boxed = one.bounds ∙ h.boxed ∙ ap bounding_box (sym one.whole);
   stands = subst (λ (z : Segment). Contains (meeting_points v z) l.here) (sym one.segment) (subst (Contains (meeting_points v k.segment)) (sym one.here) h.stands);
   found =
-      subst (λ (z : Segment). AreFoundAfter v z l.here l.found.entries) (sym one.segment)
-      (subst (λ (z : Point). AreFoundAfter v k.segment z l.found.entries) (sym one.here)
+      subst (λ (z : Segment). AreFoundAfter v z l.here (entries_in l.found)) (sym one.segment)
+      (subst (λ (z : Point). AreFoundAfter v k.segment z (entries_in l.found)) (sym one.here)
       (λ p at m. elim (only p at m) [ inl n ↦ h.found p at n | inr w ↦ record { meets = sound p w.0; later = w.2; there = w.1 } ]));
-  kept = kept_on o.found.entries k.found.entries l.found.entries h.kept kept;
+  kept = kept_on (entries_in o.found) (entries_in k.found) (entries_in l.found) h.kept kept;
 }
 
 -- ---- a look at a dart

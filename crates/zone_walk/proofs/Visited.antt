@@ -11,12 +11,13 @@ use Rattle.slab_laws.specs.declared.names.DartId.{DartId}
 use Rattle.slab_laws.specs.declared.names.FaceId.{FaceId}
 use Rattle.sound_views.proofs.NamedDarts.{twin_dart}
 use Rattle.counted_looks.specs.Boundaries.{IsOnBoundary}
-use Rattle.counted_looks.specs.Boxes.{are_apart}
+use Rattle.exact_plane.specs.Boxes.{are_apart}
 use Rattle.counted_looks.specs.CycleLooks.{IsCycleLookOf}
 use Rattle.counted_looks.specs.declared.cycle_glimpse.CycleGlimpse.{CycleGlimpse}
 use Rattle.counted_looks.proofs.Covered.{apart_ends}
 use Rattle.counted_looks.specs.declared.boundary_part.BoundaryPart.{BoundaryPart}
 use Rattle.counted_looks.specs.declared.boundary_part.BoundaryPart.TheVariants.{Dart, Isolated}
+use Rattle.zone_walk.specs.FoundPoints.{entries_in}
 use Rattle.zone_walk.specs.Searches.{IsOnEdge, IsSearchFrom, IsPassed, IsVisitFrom, HasSeen, HasLooked}
 use Rattle.zone_walk.specs.declared.search.Search.{Search}
 use Rattle.zone_walk.proofs.Searched.{outside_taken}
@@ -33,7 +34,7 @@ visit_on v w g f b a k l m h i = record { graph = i.graph; faces = i.faces; face
 -- ---- a cycle whose box is apart from the segment's
 pub cycle_looked : (v : View) (o k : Search) → IsSearchFrom v o k → (known f : Faces) (a : FaceId) (l : Lists) (c : CycleId) (g : CycleGlimpse) → IsCycleLookOf v f l c g → are_apart k.bounds g.area ≡ true → (d : DartId) → HasDart v d → cycle_in f d ≡ c → HasLooked v known a k (Dart d)
 cycle_looked v o k h known f a l c g look e d has on =
-    inl (λ failed. outside_taken v o k h d has (point_in v (source_in v d)) (point_in v (target_in v d)) refl refl (apart_ends v g.area d (look.area d has on) k.bounds e) k.found.entries)
+    inl (λ failed. outside_taken v o k h d has (point_in v (source_in v d)) (point_in v (target_in v d)) refl refl (apart_ends v g.area d (look.area d has on) k.bounds e) (entries_in k.found))
 
 -- ---- all of the boundary
 module _ (v : View) (s : IsGraphSound v) (f : Faces) (a : FaceId) (l : Search) where

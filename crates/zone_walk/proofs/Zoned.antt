@@ -11,6 +11,7 @@ use Rattle.plane_graphs.proofs.Lists.{clash}
 use Rattle.slab_laws.specs.Sound.{IsGraphSound}
 use Rattle.slab_laws.specs.View.{View, Faces}
 use Rattle.dcel_records.specs.declared.spot.Spot.{Spot}
+use Rattle.zone_walk.specs.FoundPoints.{entries_in}
 use Rattle.zone_walk.specs.Searches.{AreFoundAfter}
 use Rattle.zone_walk.specs.Walk.{IsSearchAt}
 use Rattle.zone_walk.specs.Zone.{meeting_points}
@@ -23,7 +24,7 @@ none_found : (v : View) (g : Segment) (p : Point) (es : List (Point × Spot)) �
 none_found v g p es e q at m = absurd (subst (λ (xs : List (Point × Spot)). Member (q, at) xs) e m)
 
 module _ (v : View) (f : Faces) (s : IsGraphSound v) (g : Segment) (l : Search) where
-  pub began : (p : Point) → p ≡ g.lower → l.segment ≡ g → l.here ≡ g.lower → l.found.entries ≡ [] → l.visited.keys ≡ [] → AreEnds g → IsSpan (span_of_segment g) × (l.whole ≡ span_of_segment g) → l.bounds ≡ bounding_box l.whole → IsSearchAt v f g p l
+  pub began : (p : Point) → p ≡ g.lower → l.segment ≡ g → l.here ≡ g.lower → (entries_in l.found) ≡ [] → l.visited.keys ≡ [] → AreEnds g → IsSpan (span_of_segment g) × (l.whole ≡ span_of_segment g) → l.bounds ≡ bounding_box l.whole → IsSearchAt v f g p l
   began p e segment here found visited ends whole bounds = record {
     search = record {
       one = record { segment = refl; here = refl; visited = refl; whole = refl; bounds = refl; failed = λ z. z };
@@ -33,7 +34,7 @@ module _ (v : View) (f : Faces) (s : IsGraphSound v) (g : Segment) (l : Search) 
       spanned = whole.1 ∙ ap span_of_segment (sym segment);
       boxed = bounds;
       stands = subst (λ (z : Segment). Contains (meeting_points v z) l.here) (sym segment) (subst (Contains (meeting_points v g)) (sym here) (listed v s g (course g ends) g.lower (lower refl)));
-      found = none_found v l.segment l.here l.found.entries found;
+      found = none_found v l.segment l.here (entries_in l.found) found;
       kept = λ r m. m;
     };
     segment = segment;

@@ -21,6 +21,7 @@ use Rattle.counted_looks.specs.declared.boundary_part.BoundaryPart.TheVariants.{
 use Rattle.dcel_records.specs.declared.spot.Spot.{Spot}
 use Rattle.dcel_records.specs.declared.spot.Spot.TheVariants.{Vertex, Edge, Face}
 use Rattle.dcel_records.specs.Spots.{IsMet, met_of}
+use Rattle.zone_walk.specs.FoundPoints.{entries_in}
 use Rattle.zone_walk.specs.Zone.{meeting_points, are_one}
 use Rattle.zone_walk.specs.declared.search.Search.{Search}
 
@@ -81,12 +82,12 @@ pub record IsSearchFrom (v : View) (k l : Search) : Type 0 where
   pub spanned : l.whole ≡ span_of_segment l.segment
   pub boxed : l.bounds ≡ bounding_box l.whole
   pub stands : Contains (meeting_points v l.segment) l.here
-  pub found : AreFoundAfter v l.segment l.here l.found.entries
-  pub kept : AreKept k.found.entries l.found.entries
+  pub found : AreFoundAfter v l.segment l.here (entries_in l.found)
+  pub kept : AreKept (entries_in k.found) (entries_in l.found)
 
 -- unless memory was wanting, the later meeting points on the part of the boundary are found (this project)
 abbrev pub HasSeen : View → Search → BoundaryPart → Type 0
-HasSeen v l t = l.failed ≡ false → IsPartTaken v l.segment l.here l.found.entries t
+HasSeen v l t = l.failed ≡ false → IsPartTaken v l.segment l.here (entries_in l.found) t
 
 -- whether the line passes through the point where the search stands, and isn't the segment's own (this project)
 abbrev pub passes_here : Line → Search → Bool

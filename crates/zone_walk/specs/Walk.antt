@@ -20,7 +20,8 @@ use Rattle.slab_laws.specs.Sound.{edge_in}
 use Rattle.dcel_records.specs.declared.spot.Spot.{Spot}
 use Rattle.dcel_records.specs.declared.spot.Spot.TheVariants as spot
 use Rattle.dcel_records.specs.Spots.{met_of}
-use Rattle.open_parts.specs.Parts.{TellsFace}
+use Rattle.zone_walk.specs.FoundPoints.{entries_in}
+use Rattle.zone_walk.specs.Parts.{TellsFace}
 use Rattle.counted_looks.specs.Boundaries.{IsOnBoundary}
 use Rattle.counted_looks.specs.declared.boundary_part.BoundaryPart.{BoundaryPart}
 use Rattle.zone_walk.specs.Searches.{IsSearchFrom, IsPartTaken}
@@ -80,7 +81,13 @@ pub record IsSearchAt (v : View) (f : Faces) (s : Segment) (p : Point) (l : Sear
   pub search : IsSearchFrom v l l
   pub segment : l.segment ≡ s
   pub here : l.here ≡ p
-  pub visited : (a : FaceId) → has_visited l a ≡ true → (t : BoundaryPart) → IsOnBoundary v f a t → IsPartTaken v s p l.found.entries t
+  pub visited : (a : FaceId) → has_visited l a ≡ true → (t : BoundaryPart) → IsOnBoundary v f a t → IsPartTaken v s p (entries_in l.found) t
+
+-- a visit that knows this graph and these faces, whose search stands at a point of the segment (this project)
+pub record IsVisitAt (v : View) (f : Faces) (known : View) (g : Faces) (s : Segment) (p : Point) (l : Search) : Type 0 where
+  pub graph : known ≡ v
+  pub faces : g ≡ f
+  pub search : IsSearchAt v f s p l
 
 -- the part and the next meeting point, at which the search stands then (this project)
 pub record IsNextOf (v : View) (f : Faces) (s : Segment) (p : Point) (part : Spot) (next : Meeting) (l : Search) : Type 0 where

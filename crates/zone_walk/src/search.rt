@@ -9,16 +9,18 @@ ghost use Rattle.slab_laws.specs.View.{HasVertex, HasDart, point_in, source_in, 
 ghost use Rattle.counted_looks.specs.Looks.{IsLookOf};
 ghost use Rattle.counted_looks.specs.declared.boundary_part.BoundaryPart.TheVariants.{Dart, Isolated};
 ghost use Rattle.dcel_records.specs.declared.spot.Spot.TheVariants.{Edge};
+ghost use Rattle.zone_walk.specs.FoundPoints.{entries_in};
 ghost use Rattle.zone_walk.specs.Searches.{AreKept, IsOnEdge, IsThere, IsOneSearch, IsSearchFrom, IsPassed, IsVisitFrom, HasSeen, HasLooked, passes_here};
 
 use crate::edge_points::{CommonPoints, points_on_edge};
+use crate::found::FoundPoints;
 use crate::sight::Sight;
 use counted_looks::{BoundaryPart, Glimpse, Looker, NameCalls};
 use dcel_records::Spot;
 use exact_plane::{BoundingBox, Line, Point, Segment, Span};
 use slab_laws::{CycleId, DartId, FaceId, VertexId};
 use std::alloc::Global;
-use std::collections::{BTreeMap, BTreeSet};
+use std::collections::BTreeSet;
 use std::sync::ledger::Ledger;
 use work_steps::Steps;
 
@@ -33,7 +35,7 @@ pub(crate) struct Search {
     pub(crate) bounds: BoundingBox,
     pub(crate) here: Point,
     /// Those that were found, each with the vertex or edge at which it is.
-    pub(crate) found: BTreeMap<Point, Spot>,
+    pub(crate) found: FoundPoints,
     /// The names of the faces whose boundaries were looked at.
     pub(crate) visited: BTreeSet<usize>,
     /// Whether there was no memory for one that was found.
@@ -41,30 +43,16 @@ pub(crate) struct Search {
 }
 
 impl Search {
-    // One that has found and visited nothing.
-    pub(crate) fn spare(&self) -> Search {
-        Search {
-            alloc: self.alloc,
-            segment: self.segment,
-            whole: self.whole,
-            bounds: self.bounds,
-            here: self.here,
-            found: BTreeMap::new(self.alloc),
-            visited: BTreeSet::new(self.alloc),
-            failed: false,
-        }
-    }
-
     // Keeps a point, where it comes later.
     fn take(&mut self, point: Point, spot: Spot)
         ensures same { IsOneSearch self.old self.new }
-        ensures kept { AreKept self.old.found.entries self.new.found.entries }
-        ensures taken { self.new.failed ≡ false → precedes self.old.here point ≡ true → Member point (keys_of self.new.found.entries) }
-        ensures only { (p : _) (at : _) → Member (p, at) self.new.found.entries → Member (p, at) self.old.found.entries ⊎ ((p ≡ point) × (at ≡ spot) × (precedes self.old.here p ≡ true)) }
+        ensures kept { AreKept (entries_in self.old.found) (entries_in self.new.found) }
+        ensures taken { self.new.failed ≡ false → precedes self.old.here point ≡ true → Member point (keys_of (entries_in self.new.found)) }
+        ensures only { (p : _) (at : _) → Member (p, at) (entries_in self.new.found) → Member (p, at) (entries_in self.old.found) ⊎ ((p ≡ point) × (at ≡ spot) × (precedes self.old.here p ≡ true)) }
     {
         if self.here < point {
             match self.found.insert(point, spot) {
-                Ok(_) => {}
+                Ok(()) => {}
                 Err(_) => self.failed = true,
             }
         }
@@ -104,9 +92,9 @@ fn take_on<T: Sight>(
     requires target { common.now.target ≡ point_in (T.graph sight.now) (target_in (T.graph sight.now) dart) }
     requires on { IfSome point (IsOnEdge (T.graph sight.now) dart) }
     ensures same { IsOneSearch search.old search.new }
-    ensures kept { AreKept search.old.found.entries search.new.found.entries }
-    ensures taken { search.new.failed ≡ false → IfSome point (λ p. precedes search.old.here p ≡ true → Member p (keys_of search.new.found.entries)) }
-    ensures only { (p : _) (at : _) → Member (p, at) search.new.found.entries → Member (p, at) search.old.found.entries ⊎ ((point ≡ Some p) × IsThere (T.graph sight.now) p at × (precedes search.old.here p ≡ true)) }
+    ensures kept { AreKept (entries_in search.old.found) (entries_in search.new.found) }
+    ensures taken { search.new.failed ≡ false → IfSome point (λ p. precedes search.old.here p ≡ true → Member p (keys_of (entries_in search.new.found))) }
+    ensures only { (p : _) (at : _) → Member (p, at) (entries_in search.new.found) → Member (p, at) (entries_in search.old.found) ⊎ ((point ≡ Some p) × IsThere (T.graph sight.now) p at × (precedes search.old.here p ≡ true)) }
 {
     if let Some(point) = point {
         let spot = spot_on(sight, dart, &common.source, &common.target, &point);
@@ -169,7 +157,7 @@ fn is_passed<T: Sight>(sight: &T, face: FaceId, dart: DartId) -> bool
     twin.0 < dart.0 && sight.face(sight.cycle(twin)).0 == face.0
 }
 
-/// A search at the boundary of a face.
+/// A search at the boundary of a face, the last one that it visited.
 #[derive(Drop)]
 pub(crate) struct Visit<'a, T: Sight> {
     pub(crate) sight: &'a T,

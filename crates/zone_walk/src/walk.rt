@@ -13,10 +13,12 @@ ghost use Rattle.counted_looks.specs.Boundaries.{boundary_size, IsOnBoundary};
 ghost use Rattle.dcel_records.specs.declared.spot.Spot.TheVariants.{Edge as OnEdge, Face as InFace};
 ghost use Rattle.dcel_records.specs.Spots.{IsMet, met_of};
 ghost use Rattle.face_location.specs.Spots.{IsSpotOf};
+ghost use Rattle.zone_walk.specs.FoundPoints.{entries_in};
 ghost use Rattle.zone_walk.specs.Searches.{IsPartTaken};
-ghost use Rattle.zone_walk.specs.Walk.{IsPartAhead, IsSpotStretch, IsSearchAt, IsNextOf, stop_looks, has_visited};
+ghost use Rattle.zone_walk.specs.Walk.{IsPartAhead, IsSpotStretch, IsSearchAt, IsVisitAt, IsNextOf, stop_looks, has_visited};
 ghost use Rattle.zone_walk.specs.Zone.{is_on_segment, meeting_points, vertices_needed, edges_needed, edges_met, degree_at, dart_of_spot, CoversVisits, IsSpotBetween, IsNextMeeting, IsZoneOf};
 
+use crate::found::FoundPoints;
 use crate::plan::{Meeting, ZonePlan};
 use crate::records_sight::whole;
 use crate::search::{Search, Visit};
@@ -28,8 +30,7 @@ use no_memory::NoMemory;
 use rotation_order::Place;
 use slab_laws::{DartId, FaceId, Sequence, VertexId};
 use std::alloc::Global;
-use std::collections::{BTreeMap, BTreeSet};
-use std::mem::replace;
+use std::collections::BTreeSet;
 use std::sync::ledger::Ledger;
 use work_steps::Steps;
 
@@ -129,7 +130,7 @@ fn part_ahead<T: Sight, L: Ledger>(
 
 // Looks at a face's boundary, unless it was looked at.
 fn visit<T: Sight, L: Ledger>(
-    search: &mut Search,
+    looker: &mut Visit<'_, T>,
     sight: &T,
     face: FaceId,
     steps: &mut Steps<L>,
@@ -137,27 +138,20 @@ fn visit<T: Sight, L: Ledger>(
     requires sound { IsSound (T.graph sight.now) (T.faces sight.now) }
     requires lists { AreLists (T.graph sight.now) (T.faces sight.now) (T.lists sight.now) }
     requires face { HasFace (T.faces sight.now) face }
-    requires search { IsSearchAt (T.graph sight.now) (T.faces sight.now) search.old.segment search.old.here search.old }
-    ensures search { OnOk result (IsSearchAt (T.graph sight.now) (T.faces sight.now) search.old.segment search.old.here search.new) }
-    ensures visited { OnOk result (has_visited search.new face ≡ true) }
+    requires search { IsVisitAt (T.graph sight.now) (T.faces sight.now) (T.graph looker.old.sight.now) (T.faces looker.old.sight.now) looker.old.search.segment looker.old.search.here looker.old.search }
+    ensures search { OnOk result (IsVisitAt (T.graph sight.now) (T.faces sight.now) (T.graph looker.new.sight.now) (T.faces looker.new.sight.now) looker.old.search.segment looker.old.search.here looker.new.search) }
+    ensures visited { OnOk result (has_visited looker.new.search face ≡ true) }
     ensures count { steps.new ≤ steps.old + boundary_size (T.graph sight.now) (T.faces sight.now) face }
 {
-    if search.visited.contains(&face.0) {
+    if looker.search.visited.contains(&face.0) {
         return Ok(());
     }
-    let spare = search.spare();
-    let mut visit = Visit {
-        sight,
-        face,
-        search: replace(search, spare),
-    };
-    look_at_boundary(&mut visit, sight, face, steps);
-    *search = visit.search;
-    if search.failed {
-        search.failed = false;
+    looker.face = face;
+    look_at_boundary(looker, sight, face, steps);
+    if looker.search.failed {
         return Err(NoMemory);
     }
-    search.visited.insert(face.0)?;
+    looker.search.visited.insert(face.0)?;
     Ok(())
 }
 
@@ -198,13 +192,8 @@ fn next_inside<T: Sight>(search: &mut Search, sight: &T, face: FaceId) -> Meetin
     ensures { IsNextOf (T.graph sight.now) (T.faces sight.now) search.old.segment search.old.here (InFace face) result search.new }
 {
     search.here.laws();
-    // Its length tells that its keys ascend.
-    let _count = search.found.len();
     let next = match search.found.pop_first() {
-        Some(first) => {
-            let (point, spot) = first;
-            Meeting { point, spot }
-        }
+        Some(first) => first,
         None => Meeting {
             point: search.segment.upper(),
             spot: Spot::Face(face),
@@ -216,31 +205,39 @@ fn next_inside<T: Sight>(search: &mut Search, sight: &T, face: FaceId) -> Meetin
 
 // From a meeting point to the next one: the spot of the part between, and that point.
 fn onward<T: Sight, L: Ledger>(
-    search: &mut Search,
+    looker: &mut Visit<'_, T>,
     sight: &T,
     here: &Meeting,
     steps: &mut Steps<L>,
 ) -> Result<(Spot, Point, Spot), NoMemory>
     requires sound { IsSound (T.graph sight.now) (T.faces sight.now) }
     requires lists { AreLists (T.graph sight.now) (T.faces sight.now) (T.lists sight.now) }
-    requires search { IsSearchAt (T.graph sight.now) (T.faces sight.now) search.old.segment search.old.here search.old }
-    requires here { search.old.here ≡ here.now.point }
+    requires search { IsVisitAt (T.graph sight.now) (T.faces sight.now) (T.graph looker.old.sight.now) (T.faces looker.old.sight.now) looker.old.search.segment looker.old.search.here looker.old.search }
+    requires here { looker.old.search.here ≡ here.now.point }
     requires spot { IsSpotOf (T.graph sight.now) (T.faces sight.now) here.now.point here.now.spot }
-    requires on { is_on_segment search.old.segment here.now.point ≡ true }
-    requires before { precedes here.now.point search.old.segment.upper ≡ true }
-    ensures next { IfOk result (λ r. IsNextOf (T.graph sight.now) (T.faces sight.now) search.old.segment here.now.point r.0 (record { point = r.1; spot = r.2 }) search.new) }
-    ensures looks { (n : _) → ((q : _) (a : _) → IsNextMeeting (T.graph sight.now) search.old.segment here.now.point q → IsSpotBetween (T.graph sight.now) (T.faces sight.now) search.old.segment here.now.point q (InFace a) → boundary_size (T.graph sight.now) (T.faces sight.now) a ≤ n) → steps.new ≤ steps.old + (stop_looks (T.graph sight.now) search.old.segment here.now.point + n) }
+    requires on { is_on_segment looker.old.search.segment here.now.point ≡ true }
+    requires before { precedes here.now.point looker.old.search.segment.upper ≡ true }
+    ensures next { IfOk result (λ r. IsNextOf (T.graph sight.now) (T.faces sight.now) looker.old.search.segment here.now.point r.0 (record { point = r.1; spot = r.2 }) looker.new.search) }
+    ensures graph { OnOk result (T.graph looker.new.sight.now ≡ T.graph sight.now) }
+    ensures faces { OnOk result (T.faces looker.new.sight.now ≡ T.faces sight.now) }
+    ensures looks { (n : _) → ((q : _) (a : _) → IsNextMeeting (T.graph sight.now) looker.old.search.segment here.now.point q → IsSpotBetween (T.graph sight.now) (T.faces sight.now) looker.old.search.segment here.now.point q (InFace a) → boundary_size (T.graph sight.now) (T.faces sight.now) a ≤ n) → steps.new ≤ steps.old + (stop_looks (T.graph sight.now) looker.old.search.segment here.now.point + n) }
 {
     here.point.laws();
-    let (part, end) = part_ahead(sight, &search.segment, &search.whole, here, steps);
+    let (part, end) = part_ahead(
+        sight,
+        &looker.search.segment,
+        &looker.search.whole,
+        here,
+        steps,
+    );
     match part {
         Spot::Edge(dart) => {
-            let next = next_along(search, sight, dart, end);
+            let next = next_along(&mut looker.search, sight, dart, end);
             Ok((part, next.point, next.spot))
         }
         Spot::Face(face) => {
-            visit(search, sight, face, steps)?;
-            let next = next_inside(search, sight, face);
+            visit(looker, sight, face, steps)?;
+            let next = next_inside(&mut looker.search, sight, face);
             Ok((part, next.point, next.spot))
         }
         Spot::Vertex(_) => unreachable!(),
@@ -289,7 +286,7 @@ fn room_for(plan: &ZonePlan) -> Room
 fn begin(alloc: Global, segment: &Segment) -> Search
     ensures segment { result.segment ≡ segment.now }
     ensures here { result.here ≡ segment.now.lower }
-    ensures found { result.found.entries ≡ [] }
+    ensures found { entries_in result.found ≡ [] }
     ensures visited { result.visited.keys ≡ [] }
     ensures ends { AreEnds segment.now }
     ensures whole { IsSpan (span_of_segment segment.now) × (result.whole ≡ span_of_segment segment.now) }
@@ -304,7 +301,7 @@ fn begin(alloc: Global, segment: &Segment) -> Search
         whole,
         bounds: BoundingBox::of(&whole),
         here: lower,
-        found: BTreeMap::new(alloc),
+        found: FoundPoints::new(alloc),
         visited: BTreeSet::new(alloc),
         failed: false,
     }
@@ -337,7 +334,12 @@ pub fn zone<T: Sight, L: Ledger>(
     let upper = segment.upper();
     let mut point = segment.lower();
     let mut spot = start;
-    let mut search = begin(alloc, segment);
+    // The face comes with the first visit.
+    let mut looker = Visit {
+        sight,
+        face: FaceId(0),
+        search: begin(alloc, segment),
+    };
     let mut plan = ZonePlan {
         vertices: Sequence::new(alloc),
         between: Sequence::new(alloc),
@@ -352,7 +354,7 @@ pub fn zone<T: Sight, L: Ledger>(
     plan.vertices.push(Meeting { point, spot })?;
     'walk: while point < upper {
         let here = Meeting { point, spot };
-        let (part, next_point, next_spot) = onward(&mut search, sight, &here, steps)?;
+        let (part, next_point, next_spot) = onward(&mut looker, sight, &here, steps)?;
         point = next_point;
         spot = next_spot;
         extend(&mut plan, part, Meeting { point, spot })?;

@@ -4,6 +4,7 @@ use Rattle.plane_graphs.specs.Ascending.{Member}
 use Rattle.plane_graphs.specs.Line.{precedes}
 use Rattle.std.specs.Map.{keys_of}
 use Rattle.slab_laws.specs.View.{point_in}
+use Rattle.zone_walk.specs.FoundPoints.{entries_in}
 use Rattle.zone_walk.specs.Searches.{IsThere}
 use Rattle.zone_walk.specs.Zone.{meeting_points}
 use Rattle.zone_walk.proofs.Searched.{goes_on, still_seen, vertex_meets, vertex_missed}
@@ -25,7 +26,7 @@ returns-in-Some-clause-seen g c = λ failed.
     let v = g.T.NameCalls.graph c.args.sight.now in
     let met = c.in-Some.ensures.met in
     λ m l.
-    subst (λ (p : Point). Member p (keys_of c.take.new.self.found.entries)) met.0
+    subst (λ (p : Point). Member p (keys_of (entries_in c.take.new.self.found))) met.0
     (c.take.ensures.taken failed (ap (precedes c.args.search.now.here) met.0 ∙ ap (λ (q : Point). precedes q (point_in v c.args.vertex)) (sym c.take.ensures.same.here) ∙ l))
 
 pub returns-in_default-clause-seen : goal.returns-in_default-clause-seen

@@ -11,6 +11,7 @@ use Rattle.counted_looks.specs.Looks.{IsLookOf}
 use Rattle.counted_looks.specs.declared.glance.Looked.{Looked}
 use Rattle.counted_looks.specs.declared.boundary_part.BoundaryPart.TheVariants.{Dart}
 use Rattle.dcel_records.specs.declared.spot.Spot.TheVariants.{Edge}
+use Rattle.zone_walk.specs.FoundPoints.{entries_in}
 use Rattle.zone_walk.specs.Searches.{IsOnEdge, IsPartTaken, IsSearchFrom}
 use Rattle.zone_walk.specs.Sights.{IsSoundLook}
 use Rattle.zone_walk.specs.declared.search.Search.{Search}
@@ -34,7 +35,7 @@ pub returns-then-passes_here-clause-seen : goal.returns-then-passes_here-clause-
 returns-then-passes_here-clause-seen g c = λ failed.
     let v = g.T.NameCalls.graph c.args.sight.now in
     let h = c.requires.ready in
-    here_taken v h.0 c.args.search.now h.1 c.args.dart c.requires.dart c.line.result (told_line c.args.looked.now.line _ _ c.line.ensures c.requires.looked.2) (sym c.passes_here.ensures ∙ c.if-passes_here.true) c.args.search.now.found.entries
+    here_taken v h.0 c.args.search.now h.1 c.args.dart c.requires.dart c.line.result (told_line c.args.looked.now.line _ _ c.line.ensures c.requires.looked.2) (sym c.passes_here.ensures ∙ c.if-passes_here.true) (entries_in c.args.search.now.found)
 
 pub points_on_edge-requires : goal.points_on_edge-requires
 points_on_edge-requires g c =
@@ -85,7 +86,7 @@ returns-in-Some-clause-ready g c = λ k h.
     let last : Option Point = c.in-Some.common.last in
     goes_on v (λ p. (Some first ≡ Some p) ⊎ (last ≡ Some p)) k c.args.search.now c.take_on-in-Some.new.search h
     (one_on c.args.search.now c.take_on.new.search c.take_on-in-Some.new.search c.take_on.ensures.same c.take_on-in-Some.ensures.same)
-    (kept_on c.args.search.now.found.entries c.take_on.new.search.found.entries c.take_on-in-Some.new.search.found.entries c.take_on.ensures.kept c.take_on-in-Some.ensures.kept)
+    (kept_on (entries_in c.args.search.now.found) (entries_in c.take_on.new.search.found) (entries_in c.take_on-in-Some.new.search.found) c.take_on.ensures.kept c.take_on-in-Some.ensures.kept)
     (λ p e. (is_point v k c.args.search.now h c.args.dart c.requires.dart c.in-Some.common (c.in-Some.ensures v c.args.dart (sound_look v k c.args.search.now h c.args.dart c.requires.dart c.args.looked.now c.requires.looked)) p e).0)
     (both_takes v (λ p. Some first ≡ Some p) (λ p. last ≡ Some p) (λ p. (Some first ≡ Some p) ⊎ (last ≡ Some p)) c.args.search.now c.take_on.new.search c.take_on-in-Some.new.search c.take_on.ensures.same c.take_on.ensures.only c.take_on-in-Some.ensures.only
     (λ p e. inl e) (λ p e. inr e))
@@ -94,7 +95,7 @@ pub returns-in-Some-clause-still : goal.returns-in-Some-clause-still
 returns-in-Some-clause-still g c = λ t s.
     still_seen (g.T.NameCalls.graph c.args.sight.now) c.args.search.now c.take_on-in-Some.new.search
     (one_on c.args.search.now c.take_on.new.search c.take_on-in-Some.new.search c.take_on.ensures.same c.take_on-in-Some.ensures.same)
-    (kept_on c.args.search.now.found.entries c.take_on.new.search.found.entries c.take_on-in-Some.new.search.found.entries c.take_on.ensures.kept c.take_on-in-Some.ensures.kept) t s
+    (kept_on (entries_in c.args.search.now.found) (entries_in c.take_on.new.search.found) (entries_in c.take_on-in-Some.new.search.found) c.take_on.ensures.kept c.take_on-in-Some.ensures.kept) t s
 
 pub returns-in-Some-clause-seen : goal.returns-in-Some-clause-seen
 returns-in-Some-clause-seen g c = λ failed.
@@ -102,13 +103,13 @@ returns-in-Some-clause-seen g c = λ failed.
     let h = c.requires.ready in
     let last : Option Point = c.in-Some.common.last in
     let one = one_on c.args.search.now c.take_on.new.search c.take_on-in-Some.new.search c.take_on.ensures.same c.take_on-in-Some.ensures.same in
-    subst (λ (z : Segment). IsPartTaken v z c.take_on-in-Some.new.search.here c.take_on-in-Some.new.search.found.entries (Dart c.args.dart)) (sym one.segment)
-    (subst (λ (z : Point). IsPartTaken v c.args.search.now.segment z c.take_on-in-Some.new.search.found.entries (Dart c.args.dart)) (sym one.here)
-    (dart_taken v h.0 c.args.search.now h.1 c.args.dart c.requires.dart c.in-Some.common (c.in-Some.ensures v c.args.dart (sound_look v h.0 c.args.search.now h.1 c.args.dart c.requires.dart c.args.looked.now c.requires.looked)) c.take_on-in-Some.new.search.found.entries
+    subst (λ (z : Segment). IsPartTaken v z c.take_on-in-Some.new.search.here (entries_in c.take_on-in-Some.new.search.found) (Dart c.args.dart)) (sym one.segment)
+    (subst (λ (z : Point). IsPartTaken v c.args.search.now.segment z (entries_in c.take_on-in-Some.new.search.found) (Dart c.args.dart)) (sym one.here)
+    (dart_taken v h.0 c.args.search.now h.1 c.args.dart c.requires.dart c.in-Some.common (c.in-Some.ensures v c.args.dart (sound_look v h.0 c.args.search.now h.1 c.args.dart c.requires.dart c.args.looked.now c.requires.looked)) (entries_in c.take_on-in-Some.new.search.found)
     (λ p o l.
     ⊎_elim
-    (λ e. c.take_on-in-Some.ensures.kept p (some_of (λ q. precedes c.args.search.now.here q ≡ true → Member q (keys_of c.take_on.new.search.found.entries)) (Some c.in-Some.common.first) p e (c.take_on.ensures.taken (c.take_on-in-Some.ensures.same.failed failed)) l))
-    (λ e. some_of (λ q. precedes c.take_on.new.search.here q ≡ true → Member q (keys_of c.take_on-in-Some.new.search.found.entries)) last p e (c.take_on-in-Some.ensures.taken failed) (ap (λ (x : Point). precedes x p) c.take_on.ensures.same.here ∙ l))
+    (λ e. c.take_on-in-Some.ensures.kept p (some_of (λ q. precedes c.args.search.now.here q ≡ true → Member q (keys_of (entries_in c.take_on.new.search.found))) (Some c.in-Some.common.first) p e (c.take_on.ensures.taken (c.take_on-in-Some.ensures.same.failed failed)) l))
+    (λ e. some_of (λ q. precedes c.take_on.new.search.here q ≡ true → Member q (keys_of (entries_in c.take_on-in-Some.new.search.found))) last p e (c.take_on-in-Some.ensures.taken failed) (ap (λ (x : Point). precedes x p) c.take_on.ensures.same.here ∙ l))
     o)))
 
 pub returns-in_default-clause-seen : goal.returns-in_default-clause-seen
@@ -116,4 +117,4 @@ returns-in_default-clause-seen g c = λ failed.
     let v = g.T.NameCalls.graph c.args.sight.now in
     let h = c.requires.ready in
     let met = c.in_default.ensures v c.args.dart (sound_look v h.0 c.args.search.now h.1 c.args.dart c.requires.dart c.args.looked.now c.requires.looked) in
-    none_taken v h.0 c.args.search.now h.1 c.args.dart c.requires.dart met.0 met.1 c.args.search.now.found.entries
+    none_taken v h.0 c.args.search.now h.1 c.args.dart c.requires.dart met.0 met.1 (entries_in c.args.search.now.found)

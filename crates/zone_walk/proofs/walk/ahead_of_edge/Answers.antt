@@ -3,7 +3,7 @@ use Rattle.plane_graphs.proofs.Lines.{point_is_proper}
 use Rattle.plane_graphs.proofs.Order.{lt_out}
 use Rattle.exact_plane.specs.declared.sides.Sign.{Sign}
 use Rattle.exact_plane.specs.declared.sides.Sign.TheVariants.{Minus, Zero, Plus}
-use Rattle.open_parts.specs.Parts.{TellsFace}
+use Rattle.zone_walk.specs.Parts.{TellsFace}
 use Rattle.slab_laws.specs.declared.names.FaceId.{FaceId}
 use Rattle.slab_laws.specs.View.{cycle_in, face_in}
 use Rattle.zone_walk.proofs.Courses.{course, lies_out}

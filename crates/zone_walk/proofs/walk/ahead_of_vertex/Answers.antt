@@ -4,7 +4,7 @@ use Rattle.exact_plane.specs.Line.{Line}
 use Rattle.exact_plane.specs.Segment.{Segment, line_of_segment}
 use Rattle.exact_plane.specs.Span.{Span, span_of_segment}
 use Rattle.plane_graphs.proofs.Order.{lt_out}
-use Rattle.open_parts.specs.Parts.{TellsFace}
+use Rattle.zone_walk.specs.Parts.{TellsFace}
 use Rattle.slab_laws.specs.declared.names.FaceId.{FaceId}
 use Rattle.slab_laws.specs.declared.names.VertexId.{VertexId}
 use Rattle.slab_laws.specs.View.{View, point_in, cycle_in, face_in}

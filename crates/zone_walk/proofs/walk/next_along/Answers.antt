@@ -8,6 +8,7 @@ use Rattle.slab_laws.specs.declared.names.VertexId.{VertexId}
 use Rattle.slab_laws.specs.View.{target_in}
 use Rattle.dcel_records.specs.declared.spot.Spot.{Spot}
 use Rattle.dcel_records.specs.declared.spot.Spot.TheVariants.{Vertex, Edge}
+use Rattle.zone_walk.specs.FoundPoints.{entries_in}
 use Rattle.zone_walk.specs.declared.plan.Meeting.{Meeting}
 use Rattle.zone_walk.specs.declared.search.Search.{Search}
 use Rattle.zone_walk.proofs.Courses.{course, lies_out}
@@ -37,9 +38,6 @@ returns g c =
       spot = w.1;
       search =
           moved v f s l (record { alloc = l.alloc; segment = l.segment; whole = l.whole; bounds = l.bounds; here = q; found = c.remove.new.self; visited = l.visited; failed = l.failed }) p q c.requires.search w.0.stretch.next refl refl refl refl refl
-          (λ r at i. (
-            removed_from q l.found.entries r at (subst (λ (es : List (Point × Spot)). Member (r, at) es) c.remove.ensures.entries i),
-            λ e. none_there q c.remove.new.self.entries c.remove.ensures.updates.1 (subst (λ (x : Point). Member x (keys_of c.remove.new.self.entries)) e (key_of_entry c.remove.new.self.entries r at i)),
-          ))
-          (λ r i d. subst (λ (es : List (Point × Spot)). Member r (keys_of es)) (sym c.remove.ensures.entries) (others_kept q l.found.entries r d i));
+          c.remove.ensures.only
+          c.remove.ensures.kept;
     }

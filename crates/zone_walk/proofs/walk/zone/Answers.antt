@@ -38,7 +38,7 @@ walk-init g c =
     starts v f S s k c.args.start c.requires.start s.lower s.lower refl refl (record { point = s.lower; spot = c.args.start } ∷ []) [] [] refl refl refl in
     record {
       walked = walked;
-      at = began v f S s c.begin-search.result c.lower-point.result c.lower-point.ensures.value c.begin-search.ensures.segment c.begin-search.ensures.here c.begin-search.ensures.found c.begin-search.ensures.visited c.begin-search.ensures.ends c.begin-search.ensures.whole c.begin-search.ensures.bounds;
+      at = record { graph = refl; faces = refl; search = began v f S s c.begin.result c.lower-point.result c.lower-point.ensures.value c.begin.ensures.segment c.begin.ensures.here c.begin.ensures.found c.begin.ensures.visited c.begin.ensures.ends c.begin.ensures.whole c.begin.ensures.bounds };
       counted = begins v f s c.args.steps.now c.lower-point.result (subst (λ (p : Point). p ∷ later_points v s p ≡ meeting_points v s) (sym c.lower-point.ensures.value) alone.points);
     }
 
@@ -46,10 +46,11 @@ pub onward-requires-clause-search : goal.onward-requires-clause-search
 onward-requires-clause-search g c =
     let v = g.T.NameCalls.graph c.args.sight.now in
     let f = g.T.NameCalls.faces c.args.sight.now in
-    at_itself v f c.requires.sound.graph c.args.segment.now c.walk.search c.walk.point c.walk.invariant.at
+    let at = c.walk.invariant.at in
+    record { graph = at.graph; faces = at.faces; search = at_itself v f c.requires.sound.graph c.args.segment.now c.walk.looker.search c.walk.point at.search }
 
 pub onward-requires-clause-here : goal.onward-requires-clause-here
-onward-requires-clause-here g c = c.walk.invariant.at.here
+onward-requires-clause-here g c = c.walk.invariant.at.search.here
 
 pub onward-requires-clause-spot : goal.onward-requires-clause-spot
 onward-requires-clause-spot g c = c.walk.invariant.walked.here_spot
@@ -60,11 +61,11 @@ onward-requires-clause-on g c =
     let s : Segment = c.args.segment.now in
     let S = c.requires.sound.graph in
     let k = course s c.lower-point.ensures.ends in
-    ap (λ (z : Segment). is_on_segment z c.walk.point) c.walk.invariant.at.segment ∙ lies_in s c.walk.point (meets_lies v S s k c.walk.point (told v S s k c.walk.point c.walk.invariant.walked.meets))
+    ap (λ (z : Segment). is_on_segment z c.walk.point) c.walk.invariant.at.search.segment ∙ lies_in s c.walk.point (meets_lies v S s k c.walk.point (told v S s k c.walk.point c.walk.invariant.walked.meets))
 
 pub onward-requires-clause-before : goal.onward-requires-clause-before
 onward-requires-clause-before g c =
-    ap (λ (z : Segment). precedes c.walk.point z.upper) c.walk.invariant.at.segment ∙ ap (precedes c.walk.point) (sym c.upper-upper.ensures) ∙ sym c.lt.ensures ∙ c.walk-test.true
+    ap (λ (z : Segment). precedes c.walk.point z.upper) c.walk.invariant.at.search.segment ∙ ap (precedes c.walk.point) (sym c.upper-upper.ensures) ∙ sym c.lt.ensures ∙ c.walk-test.true
 
 pub returns-in_err-part-clause-looks : goal.returns-in_err-part-clause-looks
 returns-in_err-part-clause-looks g c = λ n h.
@@ -78,7 +79,7 @@ returns-in_err-part-clause-looks g c = λ n h.
     let on = meets_lies v S s k p m in
     let before = lt_out p s.upper (ap (precedes p) (sym c.upper-upper.ensures) ∙ sym c.lt.ensures ∙ c.walk-test.true) in
     let z = next_one v f c.requires.sound s k p (meets_proper v S s k p m) on before in
-    let looks = subst (λ (w : Segment). (n : _) → ((q : Point) (a : _) → IsNextMeeting v w p q → IsSpotBetween v f w p q (Face a) → boundary_size v f a ≤ n) → c.onward.new.steps ≤ c.walk.steps + (stop_looks v w p + n)) c.walk.invariant.at.segment c.in_err-part.ensures.looks in
+    let looks = subst (λ (w : Segment). (n : _) → ((q : Point) (a : _) → IsNextMeeting v w p q → IsSpotBetween v f w p q (Face a) → boundary_size v f a ≤ n) → c.onward.new.steps ≤ c.walk.steps + (stop_looks v w p + n)) c.walk.invariant.at.search.segment c.in_err-part.ensures.looks in
     in_bound v c.requires.sound.graph s k c.args.steps.now c.onward.new.steps n (in_all v f s c.args.steps.now c.onward.new.steps z.0
     (goes_on v f s c.args.steps.now c.walk.steps c.onward.new.steps p z.0 c.walk.invariant.counted (fewer_later v f S s k p z.0 z.1) (λ r i. one_next v S s k p on r z.0 i z.1) looks) n h)
 
@@ -91,7 +92,7 @@ walk-smaller g c =
     let k = course s c.lower-point.ensures.ends in
     let p = c.walk.point in
     let q = c.in_ok-part.next_point in
-    let next = subst (λ (w : Segment). IsNextOf v f w p c.in_ok-part.part (record { point = q; spot = c.in_ok-part.next_spot }) c.onward.new.search) c.walk.invariant.at.segment c.in_ok-part.ensures.next in
+    let next = subst (λ (w : Segment). IsNextOf v f w p c.in_ok-part.part (record { point = q; spot = c.in_ok-part.next_spot }) c.onward.new.looker.search) c.walk.invariant.at.search.segment c.in_ok-part.ensures.next in
     let e = ap (λ (ps : List Point). length ps) (fewer_later v f S s k p q next.stretch.stretch.next) in
     omega arith
 
@@ -107,13 +108,13 @@ walk-preserved g c =
     let there : Meeting = record { point = q; spot = c.in_ok-part.next_spot } in
     let on = meets_lies v S s k p (told v S s k p c.walk.invariant.walked.meets) in
     let before = lt_out p s.upper (ap (precedes p) (sym c.upper-upper.ensures) ∙ sym c.lt.ensures ∙ c.walk-test.true) in
-    let next = subst (λ (w : Segment). IsNextOf v f w p c.in_ok-part.part there c.onward.new.search) c.walk.invariant.at.segment c.in_ok-part.ensures.next in
-    let looks = subst (λ (w : Segment). (n : _) → ((q : Point) (a : _) → IsNextMeeting v w p q → IsSpotBetween v f w p q (Face a) → boundary_size v f a ≤ n) → c.onward.new.steps ≤ c.walk.steps + (stop_looks v w p + n)) c.walk.invariant.at.segment c.in_ok-part.ensures.looks in
+    let next = subst (λ (w : Segment). IsNextOf v f w p c.in_ok-part.part there c.onward.new.looker.search) c.walk.invariant.at.search.segment c.in_ok-part.ensures.next in
+    let looks = subst (λ (w : Segment). (n : _) → ((q : Point) (a : _) → IsNextMeeting v w p q → IsSpotBetween v f w p q (Face a) → boundary_size v f a ≤ n) → c.onward.new.steps ≤ c.walk.steps + (stop_looks v w p + n)) c.walk.invariant.at.search.segment c.in_ok-part.ensures.looks in
     record {
       walked =
           continues v f S s k c.walk.plan.vertices c.walk.plan.between c.walk.plan.overlapped p c.walk.spot c.walk.invariant.walked before c.in_ok-part.part there next.stretch next.spot
           c.extend.new.plan.vertices c.extend.new.plan.between c.extend.new.plan.overlapped c.in_ok-extend.ensures.vertices c.in_ok-extend.ensures.between c.in_ok-extend.ensures.overlapped;
-      at = next.search;
+      at = record { graph = c.in_ok-part.ensures.graph; faces = c.in_ok-part.ensures.faces; search = next.search };
       counted = goes_on v f s c.args.steps.now c.walk.steps c.onward.new.steps p q c.walk.invariant.counted (fewer_later v f S s k p q next.stretch.stretch.next) (λ r i. one_next v S s k p on r q i next.stretch.stretch.next) looks;
     }
 
@@ -128,8 +129,8 @@ returns-in_err-extend-clause-looks g c = λ n h.
     let q = c.in_ok-part.next_point in
     let there : Meeting = record { point = q; spot = c.in_ok-part.next_spot } in
     let on = meets_lies v S s k p (told v S s k p c.walk.invariant.walked.meets) in
-    let next = subst (λ (w : Segment). IsNextOf v f w p c.in_ok-part.part there c.onward.new.search) c.walk.invariant.at.segment c.in_ok-part.ensures.next in
-    let looks = subst (λ (w : Segment). (n : _) → ((q : Point) (a : _) → IsNextMeeting v w p q → IsSpotBetween v f w p q (Face a) → boundary_size v f a ≤ n) → c.onward.new.steps ≤ c.walk.steps + (stop_looks v w p + n)) c.walk.invariant.at.segment c.in_ok-part.ensures.looks in
+    let next = subst (λ (w : Segment). IsNextOf v f w p c.in_ok-part.part there c.onward.new.looker.search) c.walk.invariant.at.search.segment c.in_ok-part.ensures.next in
+    let looks = subst (λ (w : Segment). (n : _) → ((q : Point) (a : _) → IsNextMeeting v w p q → IsSpotBetween v f w p q (Face a) → boundary_size v f a ≤ n) → c.onward.new.steps ≤ c.walk.steps + (stop_looks v w p + n)) c.walk.invariant.at.search.segment c.in_ok-part.ensures.looks in
     in_bound v c.requires.sound.graph s k c.args.steps.now c.onward.new.steps n (in_all v f s c.args.steps.now c.onward.new.steps q
     (goes_on v f s c.args.steps.now c.walk.steps c.onward.new.steps p q c.walk.invariant.counted (fewer_later v f S s k p q next.stretch.stretch.next) (λ r i. one_next v S s k p on r q i next.stretch.stretch.next) looks) n h)
 

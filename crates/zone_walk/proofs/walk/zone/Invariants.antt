@@ -1,5 +1,5 @@
 use Rattle.std.proofs.Common.{length}
-use Rattle.zone_walk.specs.Walk.{IsSearchAt}
+use Rattle.zone_walk.specs.Walk.{IsVisitAt}
 use Rattle.zone_walk.specs.Zone.{later_points}
 use Rattle.zone_walk.proofs.Counted.{IsCounted}
 use Rattle.zone_walk.proofs.Walked.{IsWalked}
@@ -11,7 +11,7 @@ invariant-walk g l =
     let f = g.T.NameCalls.faces l.sight in
     record {
       walked : IsWalked v f l.segment l.plan.vertices l.plan.between l.plan.overlapped l.point l.spot;
-      at : IsSearchAt v f l.segment l.point l.search;
+      at : IsVisitAt v f (g.T.NameCalls.graph l.looker.sight.now) (g.T.NameCalls.faces l.looker.sight.now) l.segment l.point l.looker.search;
       counted : IsCounted v f l.segment l.fn.steps l.steps l.point;
     }
 

@@ -24,7 +24,7 @@ use Rattle.face_changes.specs.OneMoreVertex.{HasOneMoreVertex}
 use Rattle.face_changes.proofs.OneMoreVertex.{one_more_vertex}
 use Rattle.face_steps.specs.FaceAhead.{IsSeenFrom}
 use Rattle.face_steps.proofs.FaceAhead.{at_bare}
-use Rattle.open_parts.proofs.MorePoints.{IsListedPlane, points, points_up, points_are, points_proper, there, counts, seen_more}
+use Rattle.zone_walk.proofs.MorePoints.{IsListedPlane, points, points_up, points_are, points_proper, there, counts, seen_more}
 
 module _ (g : Skeleton) (o : IsListedPlane g) (p : Point) (P : IsProper p) (here : IsApart g p) where
   itself : precedes p p ≡ false

@@ -33,8 +33,8 @@ use Rattle.face_changes.specs.OneMoreVertex.{widened}
 use Rattle.face_changes.proofs.EdgeSplit.{edge_split_in_two}
 use Rattle.face_steps.proofs.Counted.{in_front, behind, edge_set}
 use Rattle.face_steps.proofs.SplitSteps.{whole_low, whole_high, whole_rest}
-use Rattle.open_parts.proofs.Between.{within}
-use Rattle.open_parts.proofs.MorePoints.{IsListedPlane, points, points_up, points_are, counts}
+use Rattle.zone_walk.proofs.Between.{within}
+use Rattle.zone_walk.proofs.MorePoints.{IsListedPlane, points, points_up, points_are, counts}
 
 -- ---- darts of the parts as darts of the whole
 module _ (f : Edge) (p : Point) where

@@ -18,7 +18,7 @@ use Rattle.sound_changes.proofs.NextDarts.{next_with_one_more_edge}
 use Rattle.face_steps.specs.FaceAhead.{IsSeenFrom}
 use Rattle.face_steps.proofs.AheadDrawn.{points, edges, new, edge_out, edge_in as edge_there, plane_with_edge, plane_with_point}
 use Rattle.face_steps.proofs.FaceAhead.{at_dart}
-use Rattle.open_parts.proofs.MorePoints.{IsListedPlane}
+use Rattle.zone_walk.proofs.MorePoints.{IsListedPlane}
 
 module _ (g : Skeleton) (o : IsListedPlane g) (q t : Point) (V : Contains g.vertices q) (T : IsProper t) (seen : IsSeenFrom g q t) where
   fine : (x : Point) → Member x g.vertices → IsProper x

@@ -42,14 +42,14 @@ use Rattle.face_steps.specs.FaceAhead.{IsSeenFrom}
 use Rattle.face_steps.specs.VertexSteps.{IsFaceRound}
 use Rattle.face_steps.proofs.FaceAhead.{faces_ahead}
 use Rattle.dcel_records.specs.Spots.{IsInFace}
-use Rattle.open_parts.specs.Parts.{IsClearBetween, IsFaceBetween, IsOnSide, TellsFace, at_vertex, in_edge, in_face, HasDartInto, IsOnBoundary}
-use Rattle.open_parts.specs.PartLaws.{FacesAreTold, PartsHaveAFace, PartsHaveOneFace, PartsNameOneFace, FirstReachedIsOnBoundary}
-use Rattle.open_parts.proofs.Between.{IsNearer, nearer, up_edge, down_edge, both_ways, some_between, on_one_line, both_within}
-use Rattle.open_parts.proofs.MorePoints.{IsListedPlane}
-use Rattle.open_parts.proofs.OnTheWay.{told_there}
-use Rattle.open_parts.proofs.FromFaces.{from_face}
-use Rattle.open_parts.proofs.FromEdges.{from_edge}
-use Rattle.open_parts.proofs.FromVertices.{before_it}
+use Rattle.zone_walk.specs.Parts.{IsClearBetween, IsFaceBetween, IsOnSide, TellsFace, at_vertex, in_edge, in_face, HasDartInto, IsOnBoundary}
+use Rattle.zone_walk.specs.PartLaws.{FacesAreTold, PartsHaveAFace, PartsHaveOneFace, PartsNameOneFace, FirstReachedIsOnBoundary}
+use Rattle.zone_walk.proofs.Between.{IsNearer, nearer, up_edge, down_edge, both_ways, some_between, on_one_line, both_within}
+use Rattle.zone_walk.proofs.MorePoints.{IsListedPlane}
+use Rattle.zone_walk.proofs.OnTheWay.{told_there}
+use Rattle.zone_walk.proofs.FromFaces.{from_face}
+use Rattle.zone_walk.proofs.FromEdges.{from_edge}
+use Rattle.zone_walk.proofs.FromVertices.{before_it}
 use Rattle.face_changes.specs.FacesByPairs.{Item, outside, beside, round, HasItem, cell_at, name_at, first_or}
 use Rattle.face_changes.proofs.FacesByPairs.{first_least, has_name, told_by_pairs}
 use Rattle.face_changes.proofs.LinkedCycles.{dart_there}

@@ -19,8 +19,8 @@ use Rattle.rotation_order.proofs.Turning.{soon}
 use Rattle.sound_changes.specs.EdgePlaces.{dart_between, IsPlaceFor}
 use Rattle.sound_changes.proofs.KnownNames.{points_proper}
 use Rattle.sound_changes.proofs.PointInside.{inside_out}
-use Rattle.open_parts.specs.Parts.{IsOnSide, TellsFace, at_vertex, in_edge, in_face}
-use Rattle.open_parts.proofs.Between.{IsNearer, nearer}
+use Rattle.zone_walk.specs.Parts.{IsOnSide, TellsFace, at_vertex, in_edge, in_face}
+use Rattle.zone_walk.proofs.Between.{IsNearer, nearer}
 
 module _ (v : View) (s : IsGraphSound v) (p q t : Point) (P : IsProper p) (Q : IsProper q) (T : IsProper t) (i : inside (edge_between p q) t ≡ true) where
   n : IsNearer p q t

@@ -18,7 +18,7 @@ use Rattle.slab_faces.proofs.Shift.{same_sum}
 use Rattle.slab_faces.proofs.Turns.{member_cases}
 use Rattle.face_steps.specs.FaceAhead.{IsSeenFrom}
 use Rattle.face_steps.proofs.Counted.{in_front, behind, point_set}
-use Rattle.open_parts.proofs.Between.{nearer}
+use Rattle.zone_walk.proofs.Between.{nearer}
 
 -- a plane graph as a view draws it
 pub record IsListedPlane (g : Skeleton) : Type 0 where

@@ -28,11 +28,11 @@ use Rattle.sound_changes.specs.NextLaws.{ComesBetween}
 use Rattle.face_changes.proofs.EdgeSplit.{edge_split_in_two}
 use Rattle.face_steps.specs.FaceAhead.{IsSeenFrom}
 use Rattle.face_steps.proofs.FaceAhead.{at_dart}
-use Rattle.open_parts.specs.Parts.{IsOnSide}
-use Rattle.open_parts.proofs.Between.{within, mean, in_lower, in_upper, up_dart, down_dart}
-use Rattle.open_parts.proofs.MorePoints.{IsListedPlane, points_up, points_proper, there, seen_more}
-use Rattle.open_parts.proofs.SplitThere.{low_fine, high_fine, new, rest, rest_out, edges, edges_up, edges_are, h, plane_h, split, onward, backward, into, into_there, beside_into}
-use Rattle.open_parts.proofs.Turn.{on_left, on_right}
+use Rattle.zone_walk.specs.Parts.{IsOnSide}
+use Rattle.zone_walk.proofs.Between.{within, mean, in_lower, in_upper, up_dart, down_dart}
+use Rattle.zone_walk.proofs.MorePoints.{IsListedPlane, points_up, points_proper, there, seen_more}
+use Rattle.zone_walk.proofs.SplitThere.{low_fine, high_fine, new, rest, rest_out, edges, edges_up, edges_are, h, plane_h, split, onward, backward, into, into_there, beside_into}
+use Rattle.zone_walk.proofs.Turn.{on_left, on_right}
 
 module _ (g : Skeleton) (o : IsListedPlane g) (f : Edge) (F : Contains g.edges f) (p : Point) (P : IsProper p) (i : inside f p ≡ true) where
   abbrev hh : Skeleton

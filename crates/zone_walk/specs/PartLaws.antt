@@ -7,7 +7,7 @@ use Rattle.slab_laws.specs.FacesSound.{IsSound}
 use Rattle.slab_laws.specs.Skeleton.{inside}
 use Rattle.slab_laws.specs.Sound.{edge_between, IsGraphSound}
 use Rattle.slab_laws.specs.View.{View, Faces, HasFace}
-use Rattle.open_parts.specs.Parts.{IsClearBetween, IsFaceBetween, TellsFace, IsOnBoundary}
+use Rattle.zone_walk.specs.Parts.{IsClearBetween, IsFaceBetween, TellsFace, IsOnBoundary}
 
 -- what is told towards a point is told towards each point before it, so that the way to a segment's end serves for the next point that it meets; and the face told has a name (this project)
 pub record FacesAreTold : Type 0 where

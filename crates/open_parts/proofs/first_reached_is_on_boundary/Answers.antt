@@ -1,5 +1,0 @@
-use Rattle.open_parts.proofs.PartLaws.{first_reached_is_on_boundary}
-use Rattle.open_parts.proofs.first_reached_is_on_boundary.Goals as goal
-
-pub returns : goal.returns
-returns c = first_reached_is_on_boundary
