@@ -10,7 +10,7 @@ use Rattle.plane_graphs.specs.Graph.{Mark, mark_cmp, marks, chain, graph, vertic
 use Rattle.plane_graphs.specs.Piece.{Piece, Present, along, on}
 use Rattle.plane_graphs.specs.Strands.{strand_piece, strand_pieces, strands}
 use Rattle.plane_graphs.proofs.Lists.{in_either, in_left, in_right, in_filter, of_filter, if_false, if_one, and_in}
-use Rattle.plane_graphs.proofs.Strands.{of_strands, strand_on, strand_vertices, strands_fit}
+use Rattle.plane_graphs.proofs.Strands.{of_strands, strand_on, strand_vertices, strands_fit, strand_common}
 use Rattle.edit_steps.specs.EditLaws.{ArePathPoints, IsSelfMeeting}
 use Rattle.edit_steps.specs.Edits.{path_pieces, whole_piece}
 use Rattle.edit_steps.specs.Steps.{with_piece, with_pieces}
@@ -36,10 +36,6 @@ module _ (p : Present) (js : List Piece) (fit : IsFit (with_pieces p js)) (k : P
   fit_alone = fit_part (with_piece p k) (with_pieces p js) fit among (λ r h. h) fit.pins_ascend
 
 -- ---- where sides are told apart
-same_common : (k m : Piece) → common_points (strand_piece k) (strand_piece m) ≡ common_points k m
-unfolding common_points on along
-same_common k m = refl
-
 module _ (p : Present) (js : List Piece) (ps : List Point) (a : ArePathPoints p js ps) where
   -- sides told apart: the same vertices with some pieces more
   more_vertices : (ks : List Piece) → vertices (with_pieces (strands p) (strand_pieces ks)) ≡ vertices (with_pieces p ks)
@@ -54,7 +50,7 @@ module _ (p : Present) (js : List Piece) (ps : List Point) (a : ArePathPoints p 
         other = m.0;
         one_in = k.1;
         other_in = m.1;
-        common = subst (Member x) ((λ i. common_points (k.2 i) (m.2 i)) ∙ same_common k.0 m.0) s.common;
+        common = subst (Member x) ((λ i. common_points (k.2 i) (m.2 i)) ∙ strand_common k.0 m.0) s.common;
       }
 
   pub points_apart : ArePathPoints (strands p) (strand_pieces js) ps

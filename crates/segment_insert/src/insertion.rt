@@ -9,6 +9,7 @@ ghost use Rattle.curve_history.specs.declared.history.TheConstants.{LAST_CURVE};
 ghost use Rattle.told_steps.specs.RecordLayers.{IsLayer};
 ghost use Rattle.zone_walk.specs.Zone.{IsZoneOf};
 ghost use Rattle.segment_insert.specs.Insertion.{insert_said, pairs_to_part, refusal_at, refusal_of_sides, HasRoomFor, HasRoomForPlan};
+ghost use Rattle.segment_insert.specs.Looks.{AreZoneLooks};
 ghost use Rattle.observer_bus.specs.Rows.{bus_row};
 ghost use Rattle.told_steps.specs.ToldEdits.{AreWatched, IsToldEdit};
 ghost use Rattle.told_steps.specs.ToldRuns.{AreInStep, IsToldRun};
@@ -136,6 +137,7 @@ fn prepare<L: Ledger>(
     ensures same_layer { SameLayer history.old history.new }
     ensures same_strands { SameStrands history.old history.new }
     ensures same_curves { SameCurves history.old history.new }
+    ensures looks { AreZoneLooks records.old.graph (tables_of records.old) segment.now steps.old steps.new }
 {
     // Each face lists its own cycles and isolated vertices.
     records.face_laws();
@@ -195,7 +197,7 @@ fn insert_by_plan(
 /// manual, `insert` and `Arr_observer`).
 ///
 /// `curves` and `pieces` are the limits of named curves and of pieces; `start` is the spot of the segment's lower end,
-/// with the name of the face where it is inside one; `steps` counts the looks of the zone. All memory of its own is taken before the
+/// with the name of the face where it is inside one; `steps` rises by the looks of the zone at most. All memory of its own is taken before the
 /// first note.
 pub fn insert<L: Ledger>(
     alloc: Global,
@@ -224,6 +226,7 @@ pub fn insert<L: Ledger>(
     ensures same_layer { OnErr result (SameLayer history.old history.new) }
     ensures same_curves { OnErr result (SameCurves history.old history.new) }
     ensures untold { OnErr result (bus_row Observer-dyn bus.new ≡ bus_row Observer-dyn bus.old) }
+    ensures looks { AreZoneLooks records.old.graph (tables_of records.old) segment.now steps.old steps.new }
 {
     if let Some(error) = refusal_of(&*history, 1, curves, pieces) {
         return Err(error);

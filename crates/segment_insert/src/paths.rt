@@ -17,6 +17,7 @@ ghost use Rattle.told_steps.specs.ToldRuns.{AreInStep, IsToldRun};
 ghost use Rattle.zone_walk.specs.Zone.{points_of_meetings};
 ghost use Rattle.path_zone.specs.PathZone.{AreStarts, IsPathZone};
 ghost use Rattle.segment_insert.specs.Insertion.{insert_said, refusal_of_sides, HasRoomFor};
+ghost use Rattle.segment_insert.specs.Looks.{ArePathLooks};
 ghost use Rattle.segment_insert.specs.Paths.{AreAllParts, HasRoomForPath, IsRoomFor};
 
 use crate::insertion::{InsertError, make_room, refusal_of};
@@ -105,6 +106,7 @@ fn prepare_path<L: Ledger>(
     ensures same_layer { SameLayer history.old history.new }
     ensures same_strands { SameStrands history.old history.new }
     ensures same_curves { SameCurves history.old history.new }
+    ensures looks { ArePathLooks records.old.graph (tables_of records.old) sides.now steps.old steps.new }
 {
     let plan = path_zone(alloc, &*records, sides, starts, steps)?;
     let vertices = plan.vertices();
@@ -229,6 +231,7 @@ fn insert_sides<L: Ledger>(
     ensures same_layer { OnErr result (SameLayer history.old history.new) }
     ensures same_curves { OnErr result (SameCurves history.old history.new) }
     ensures untold { OnErr result (bus_row Observer-dyn bus.new ≡ bus_row Observer-dyn bus.old) }
+    ensures looks { ArePathLooks records.old.graph (tables_of records.old) sides.now steps.old steps.new }
 {
     if let Some(error) = refusal_of(&*history, sides.len() as u32, curves, pieces) {
         return Err(error);
@@ -245,7 +248,7 @@ fn insert_sides<L: Ledger>(
 /// Sides may cross, touch and overlap: an edge along which several of them run gets the curve once, and holds each side.
 /// `curves` and `pieces` are the limits of named curves and of pieces; `starts` are the spots of the sides' lower ends, one for
 /// each side, with the name of the face where one is inside a face, and any spot where a side begins on another one behind that one's
-/// lower end; `steps` counts the looks of the zones. All memory of its own is taken before the first note.
+/// lower end; `steps` rises by the looks of the zones at most. All memory of its own is taken before the first note.
 pub fn insert_path<L: Ledger>(
     alloc: Global,
     records: &mut Records,
@@ -273,6 +276,7 @@ pub fn insert_path<L: Ledger>(
     ensures same_layer { OnErr result (SameLayer history.old history.new) }
     ensures same_curves { OnErr result (SameCurves history.old history.new) }
     ensures untold { OnErr result (bus_row Observer-dyn bus.new ≡ bus_row Observer-dyn bus.old) }
+    ensures looks { ArePathLooks records.old.graph (tables_of records.old) path.now steps.old steps.new }
 {
     insert_sides(
         alloc,

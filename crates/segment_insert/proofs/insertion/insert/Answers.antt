@@ -58,3 +58,6 @@ insert_by_plan-requires-clause-in_step g c =
 
 pub prepare-requires-clause-start : goal.prepare-requires-clause-start
 prepare-requires-clause-start g c = c.requires.start
+
+pub returns-in-Some-clause-looks : goal.returns-in-Some-clause-looks
+returns-in-Some-clause-looks g c = λ n k. omega arith

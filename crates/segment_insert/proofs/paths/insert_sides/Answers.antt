@@ -59,3 +59,6 @@ insert_by_parts-requires-clause-in_step g c =
 
 pub prepare_path-requires-clause-starts : goal.prepare_path-requires-clause-starts
 prepare_path-requires-clause-starts g c = c.requires.starts
+
+pub returns-in-Some-clause-looks : goal.returns-in-Some-clause-looks
+returns-in-Some-clause-looks g c = λ n k. omega arith
