@@ -13,7 +13,7 @@ use slab_laws::{DartId, Darts, Faced};
 
 /// An edge that went: the name that the twin of its dart had, and what became of cycles and faces.
 #[derive(Drop)]
-pub struct FacedUnlink {
+pub(crate) struct FacedUnlink {
     pub m: DartId,
     pub faces: Unlinked,
 }
@@ -105,11 +105,8 @@ fn part(records: &mut Records, d: DartId) -> FacedUnlink
 }
 
 /// The edge of the dart goes, and the darts round both its ends close up; the name that its twin had, and what becomes of cycles
-/// and faces: a cycle that vanishes, shrinks or breaks, or two faces that are united (CGAL manual, `remove_edge`).
-///
-/// It takes no memory. Where the edge breaks a cycle or unites two, the darts of the shorter one are written, where that is
-/// free; and where two faces are united, all that the one that goes had moves.
-pub fn unlink_with_faces(records: &mut Records, d: DartId) -> FacedUnlink
+/// and faces: a cycle that vanishes, shrinks or breaks, or two faces that are united.
+pub(crate) fn unlink_with_faces(records: &mut Records, d: DartId) -> FacedUnlink
     requires map { IsSoundMap records.old }
     requires returned { IsReturned records.old }
     requires cycles { 1 ≤ records.old.faces.spare_cycles }

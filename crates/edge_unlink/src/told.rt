@@ -11,7 +11,10 @@ use dcel_records::Records;
 use slab_laws::DartId;
 
 /// The edge of the dart goes, and the darts round both its ends close up; the change, which tells what became of cycles and faces
-/// too (CGAL manual, `remove_edge`).
+/// too: a cycle vanishes, shrinks or breaks, or two faces are united (CGAL manual, `remove_edge`).
+///
+/// It takes no memory. Where the edge breaks a cycle or unites two, the darts of the shorter one are written, where that is
+/// free; and where two faces are united, all that the one that goes had moves.
 pub fn unlink(records: &mut Records, d: DartId) -> Change
     requires map { IsSoundMap records.old }
     requires returned { IsReturned records.old }

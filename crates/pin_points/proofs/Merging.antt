@@ -31,7 +31,7 @@ use Rattle.observer_bus.specs.Rounds.{BusRow}
 use Rattle.told_steps.specs.RecordLayers.{IsLayer, layer_of}
 use Rattle.told_steps.proofs.Layers.{steps_make_layers}
 use Rattle.sound_changes.proofs.StepHolds.{point_held, held_point}
-use Rattle.redundant_vertices.specs.Tidied.{IsTidied}
+use Rattle.told_steps.specs.Tidied.{IsTidied}
 use Rattle.told_steps.proofs.ToldTogether.{told_runs_lawful}
 use Rattle.told_steps.specs.SidedRuns.{IsSidedRun}
 use Rattle.told_steps.specs.StrandRuns.{strand_graph}

@@ -4,12 +4,9 @@ use Rattle.std.proofs.lemmas.Bool.{false≢true}
 use Rattle.std.specs.Prelude.{IsOk, OnErr}
 use Rattle.dcel_records.specs.RecordsView.{RecordsView, IsSpare, SameRecordCapacity}
 use Rattle.curve_history.specs.Past.{Past, SameLayer, SameHistoryCapacity}
+use Rattle.observer_bus.proofs.Heard.{on_err}
 
 -- ---- a result by what it is
-pub on_err : {T E : Type 0} (r : Result T E) (P : Type 0) → P → OnErr r P
-on_err (Ok x) P p = tt
-on_err (Err e) P p = p
-
 -- the result of a call that succeeds is no error
 pub not_both : {T E : Type 0} (r : Result T E) (e : E) → IsOk r → r ≡ Err e → ⊥
 not_both (Ok x) e o is = absurd cc

@@ -28,7 +28,7 @@ use Rattle.told_steps.proofs.Layers.{steps_make_layers}
 use Rattle.sound_changes.proofs.StepHolds.{held_mark}
 use Rattle.record_orders.specs.Edges.{IsDartAlong, RunsBetween}
 use Rattle.record_orders.proofs.EdgeEnds.{ahead, along_runs, edge_of_ends}
-use Rattle.redundant_vertices.proofs.Passed.{mark_there}
+use Rattle.told_steps.proofs.Passed.{mark_there}
 use Rattle.told_steps.proofs.ToldTogether.{told_runs_lawful}
 use Rattle.told_steps.specs.SidedRuns.{IsSidedRun}
 use Rattle.told_steps.proofs.SidedRuns.{sided_as}

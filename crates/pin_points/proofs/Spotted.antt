@@ -31,7 +31,7 @@ use Rattle.sound_views.proofs.GraphDrawn.{graphs_are_plane}
 use Rattle.sound_changes.proofs.StepHolds.{held_mark, point_held, held_point, pin_held, held_pin}
 use Rattle.told_steps.specs.VertexMade.{IsPlaneWith, darts_at, steps_at, vertices_at}
 use Rattle.pin_points.specs.Pins.{MayBecomeVertex, is_pinned_met, new_vertex_steps}
-use Rattle.redundant_vertices.proofs.Passed.{flat_in, flat_out, mark_there}
+use Rattle.told_steps.proofs.Passed.{flat_in, flat_out, mark_there}
 use Rattle.integers.proofs.Tests.{not_true}
 
 -- ---- steps for one point

@@ -41,8 +41,8 @@ use Rattle.told_steps.proofs.ToldTogether.{told_runs_lawful}
 use Rattle.told_steps.specs.SidedRuns.{IsSidedRun}
 use Rattle.told_steps.specs.StrandRuns.{strand_graph}
 use Rattle.told_steps.proofs.SidedRuns.{sided_as, sided_then}
-use Rattle.redundant_vertices.specs.Tidied.{IsTidied}
-use Rattle.redundant_vertices.proofs.Missing.{missing_in, missing_out}
+use Rattle.told_steps.specs.Tidied.{IsTidied}
+use Rattle.told_steps.proofs.Missing.{missing_in, missing_out}
 use Rattle.pin_points.proofs.Spotted.{pinned_vertex}
 
 -- ---- which vertices a present loses with a pin: none but its point

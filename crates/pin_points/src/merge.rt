@@ -14,11 +14,10 @@ use curve_history::History;
 use dcel_records::Records;
 use exact_plane::Point;
 use observer_bus::Bus;
-use redundant_vertices::{is_mergeable, remove_if_redundant};
 use slab_laws::Darts;
 use std::alloc::Global;
 use thiserror::Error;
-use told_steps::clear_pin;
+use told_steps::{clear_pin, is_mergeable, remove_if_redundant};
 
 /// Why two edges don't become one at a point.
 #[derive(Clone, Copy, Debug, PartialEq, Eq, Error)]

@@ -18,11 +18,10 @@ use dcel_records::{Met, Records, Room, Spot};
 use exact_plane::Point;
 use no_memory::NoMemory;
 use observer_bus::Bus;
-use redundant_vertices::remove_if_redundant;
 use slab_laws::Darts;
 use std::alloc::Global;
 use thiserror::Error;
-use told_steps::{clear_pin, make_vertex, set_pin};
+use told_steps::{clear_pin, make_vertex, remove_if_redundant, set_pin};
 
 /// Why a point isn't pinned.
 #[derive(Clone, Copy, Debug, PartialEq, Eq, Error)]

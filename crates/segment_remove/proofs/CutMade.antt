@@ -26,7 +26,7 @@ use Rattle.told_steps.specs.StrandRuns.{IsStrandRun, strand_graph, strand_steps}
 use Rattle.told_steps.proofs.Layers.{steps_make_layers}
 use Rattle.record_orders.specs.Edges.{IsDartAlong, RunsBetween}
 use Rattle.record_orders.proofs.EdgeEnds.{along_runs}
-use Rattle.redundant_vertices.specs.Left.{AreLeft, tidying}
+use Rattle.told_steps.specs.Left.{AreLeft, tidying}
 use Rattle.told_steps.specs.ToldRuns.{IsToldRun}
 use Rattle.told_steps.proofs.ToldTogether.{told_runs_lawful}
 use Rattle.segment_remove.proofs.Cutting.{cut_apart, cut_gone, cut_is_tidied, cut_old, cut_run, fit_cut}

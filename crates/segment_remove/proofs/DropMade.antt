@@ -30,7 +30,7 @@ use Rattle.record_orders.proofs.Sorting.{all_members}
 use Rattle.told_steps.proofs.LayerEdges.{curved_forward}
 use Rattle.segment_remove.specs.CurveLosses.{AreSidesGone, without_sides}
 use Rattle.segment_remove.specs.Ends.{AreEnds}
-use Rattle.redundant_vertices.specs.Left.{AreLeft, tidying}
+use Rattle.told_steps.specs.Left.{AreLeft, tidying}
 use Rattle.told_steps.specs.ToldRuns.{IsToldRun}
 use Rattle.told_steps.proofs.ToldTogether.{told_runs_lawful}
 use Rattle.segment_remove.proofs.Dropping.{drop_apart, drop_gone, drop_is_tidied, drop_old, drop_run, fit_drop, marks_of, sides_off}

@@ -1,5 +1,5 @@
 -- Vertices in the order of their points, each once.
-use Rattle.std.proofs.Common.{◌≡◌, ℕ, ◌<◌, length, get_or, Bool, List, [], ◌∷◌, map, Ordering, Less, Equal, Greater, eqb, ◌&&◌, ◌++◌, append_assoc, refl, sym, ap, ap₂, ◌∙◌, subst, inl, inr}
+use Rattle.std.proofs.Common.{◌≡◌, ℕ, ◌<◌, length, get_or, Bool, List, [], ◌∷◌, map, Ordering, Less, Equal, Greater, ◌&&◌, ◌++◌, append_assoc, refl, sym, ap, ap₂, ◌∙◌, subst, inl, inr}
 use Rattle.std.specs.List.{AllByRecursion, flat_map}
 use Rattle.std.specs.List.Sorted.{IsPermutation, IsSorted}
 use Rattle.std.specs.List.Retain.{IsFiltered, DiffersFromLast}
@@ -9,7 +9,7 @@ use Rattle.std.proofs.lemmas.Cmp.{tied_itself}
 use Rattle.std.proofs.lemmas.List.{map-id}
 use Rattle.std.proofs.lemmas.List.Elements.{Contains-get_or}
 use Rattle.exact_plane.specs.PointOrder.{point_cmp}
-use Rattle.exact_plane.specs.PointOrderLaws.{point_cmp_ties, same_point}
+use Rattle.exact_plane.specs.PointOrderLaws.{same_point}
 use Rattle.plane_graphs.specs.Ascending.{IsAscending, Member, ascending}
 use Rattle.plane_graphs.proofs.Ascending.{All-member, IsAscending-ascending, to_member}
 use Rattle.plane_graphs.proofs.Lists.{in_map, of_map, in_flat_map, of_flat_map, in_ascending, of_ascending}
@@ -20,23 +20,10 @@ use Rattle.sound_views.proofs.PulledOrders.{IsAscending-map}
 use Rattle.record_orders.specs.declared.darts.DartKey.{DartKey}
 use Rattle.record_orders.specs.declared.vertices.VertexKey.{VertexKey}
 use Rattle.record_orders.specs.Keys.{vertex_key}
-use Rattle.record_orders.proofs.VertexKeys.{key_cmp, key_cmp_total}
+use Rattle.record_orders.proofs.VertexKeys.{key_cmp, key_cmp_total, key_exact}
 use Rattle.record_orders.proofs.Sorting.{all_members}
 use Rattle.plane_graphs.proofs.Arranged.{arranged}
-use Rattle.present_graphs.proofs.Ties.{same_numbers}
 use Rattle.segment_remove.specs.Ends.{two_ends, AreEnds}
-use Rattle.integers.proofs.Tests.{nat_exact, number_ties, both_equal}
-use Rattle.integers.proofs.Classes.{then_equal}
-
-key_exact : (x y : VertexKey) → key_cmp x y ≡ Equal → x ≡ y
-key_exact x y e =
-    let both = then_equal (point_cmp x.point y.point) (nat_cmp x.name.0 y.name.0) e in
-    let at = same_point x.point y.point both.0 in
-    let named = nat_exact x.name.0 y.name.0 both.1 in
-    λ i. record { point = at i; name = record { 0 = named i } }
-
-pub key_ties : (x y : VertexKey) → same_numbers x.point y.point && eqb x.name.0 y.name.0 ≡ eq_by_cmp key_cmp x y
-key_ties x y = ap₂ ◌&&◌ (point_cmp_ties x.point y.point) (number_ties x.name.0 y.name.0) ∙ both_equal (point_cmp x.point y.point) (nat_cmp x.name.0 y.name.0)
 
 never : (x : VertexKey) → key_cmp x x ≡ Less → ⊥
 never x e = let t = tied_itself key_cmp_total x in cc

@@ -17,7 +17,7 @@ use Rattle.told_steps.specs.SidedRuns.{IsSidedRun}
 use Rattle.told_steps.specs.StrandRuns.{IsStrandRun, strand_graph}
 use Rattle.told_steps.proofs.Runs.{made_is_run}
 use Rattle.told_steps.proofs.StrandRuns.{strands_then}
-use Rattle.redundant_vertices.specs.Left.{AreLeft, tidying}
+use Rattle.told_steps.specs.Left.{AreLeft, tidying}
 use Rattle.told_steps.specs.ToldRuns.{IsToldRun}
 use Rattle.told_steps.proofs.ToldTogether.{told_runs_lawful}
 

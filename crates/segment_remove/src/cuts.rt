@@ -16,10 +16,10 @@ use exact_plane::Point;
 use locate_naive::edge_dart;
 use no_memory::NoMemory;
 use observer_bus::Bus;
-use redundant_vertices::remove_redundant;
 use slab_laws::Darts;
 use std::alloc::Global;
 use thiserror::Error;
+use told_steps::remove_redundant;
 
 /// Why an edge isn't removed.
 #[derive(Clone, Copy, Debug, PartialEq, Eq, Error)]

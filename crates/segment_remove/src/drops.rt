@@ -24,10 +24,10 @@ use dcel_records::Records;
 use no_memory::NoMemory;
 use observer_bus::Bus;
 use record_orders::{DartKey, edges_in_order};
-use redundant_vertices::remove_redundant;
 use slab_laws::CurveId;
 use std::alloc::Global;
 use thiserror::Error;
+use told_steps::remove_redundant;
 
 /// Why a curve isn't removed.
 #[derive(Clone, Copy, Debug, PartialEq, Eq, Error)]

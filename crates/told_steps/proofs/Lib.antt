@@ -21,3 +21,11 @@ pub mod Begun
 pub mod MapsKept
 pub mod Restored
 pub mod Settled
+pub mod Straight
+pub mod LinesThrough
+pub mod Twice
+pub mod Passed
+pub mod Loosened
+pub mod Stayed
+pub mod Missing
+pub mod Onward

@@ -9,3 +9,5 @@ pub mod ToldLaws
 pub mod StepsMade
 pub mod ToldEdits
 pub mod VertexMade
+pub mod Left
+pub mod Tidied

@@ -22,7 +22,7 @@ use arr_notes::{Change, Intent};
 use curve_history::History;
 use dcel_records::Records;
 use edge_split_merge::{merge_in_cycles, split_in_cycles};
-use edge_unlink::{FacedUnlink, unlink_with_faces};
+use edge_unlink::unlink;
 use exact_plane::Point;
 use observer_bus::Bus;
 use slab_laws::{DartId, Darts, VertexId};
@@ -68,8 +68,7 @@ pub fn remove_edge(
         bus,
         Intent::RemoveEdge(low, high),
     );
-    let FacedUnlink { m, faces } = unlink_with_faces(records, d);
-    let change = Change::RemoveEdge { d, m, faces };
+    let change = unlink(records, d);
     history.release_all(d);
     let told = tell_after(alloc, &*records, &*history, bus, change);
     settle(records, told);

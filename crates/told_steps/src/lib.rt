@@ -7,6 +7,9 @@
 //! it has the lists of what moves; once observers have been told it, the records get them back (`settle`).
 //!
 //! A run of told steps stands in `specs/ToldRuns.antt`; what is true of all runs in `specs/ToldLaws.antt`.
+//!
+//! Redundant vertices go by told steps too: those with no edge, or with two along one line that have the same sides of curves, where
+//! no pin holds them (CGAL manual, removing a curve).
 #![tactic(auto)]
 
 mod carried;
@@ -17,7 +20,9 @@ mod ends;
 mod laws;
 mod links;
 mod pins;
+mod redundant;
 mod spots;
+mod through;
 mod told;
 mod vertices;
 
@@ -27,5 +32,7 @@ pub use edges::{merge_edge, remove_edge, split_edge};
 pub use laws::{layers_are_named, steps_make_layers, told_runs_are_lawful};
 pub use links::add_edge;
 pub use pins::{clear_pin, set_pin};
+pub use redundant::{remove_if_redundant, remove_redundant};
 pub use spots::make_vertex;
+pub use through::is_mergeable;
 pub use vertices::{add_vertex, remove_vertex};

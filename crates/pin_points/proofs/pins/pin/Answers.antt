@@ -14,8 +14,8 @@ use Rattle.told_steps.specs.VertexMade.{IsPlaneWith, steps_at}
 use Rattle.pin_points.specs.Pins.{HasRoomFor, is_pinned_met, pin_said}
 use Rattle.pin_points.specs.declared.pins.PinError.{PinError}
 use Rattle.pin_points.specs.declared.pins.PinError.TheVariants.{Pinned, Full, NoMemory}
-use Rattle.observer_bus.proofs.Heard.{not_ok}
-use Rattle.pin_points.proofs.Outcomes.{layer_kept, not_both, on_err}
+use Rattle.observer_bus.proofs.Heard.{not_ok, on_err}
+use Rattle.pin_points.proofs.Outcomes.{layer_kept, not_both}
 use Rattle.pin_points.proofs.Pinning.{stays_plane, pin_told, pin_layer, counted}
 use Rattle.pin_points.proofs.Spotted.{at_met, one_vertex, pinned_met, plane_with, two_darts}
 use Rattle.pin_points.proofs.Fullness.{full_out, not_full_out}

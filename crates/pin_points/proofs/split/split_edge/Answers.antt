@@ -11,8 +11,8 @@ use Rattle.told_steps.proofs.Moved.{same_layers, layer_stays}
 use Rattle.pin_points.specs.Splits.{split_said}
 use Rattle.pin_points.specs.declared.split.SplitError.{SplitError}
 use Rattle.pin_points.specs.declared.split.SplitError.TheVariants.{NoEdge, NotInside, Full, NoMemory}
-use Rattle.observer_bus.proofs.Heard.{not_ok}
-use Rattle.pin_points.proofs.Outcomes.{layer_kept, not_both, on_err}
+use Rattle.observer_bus.proofs.Heard.{not_ok, on_err}
+use Rattle.pin_points.proofs.Outcomes.{layer_kept, not_both}
 use Rattle.dcel_records.proofs.Maps.{one_map}
 use Rattle.told_steps.proofs.Begun.{begun_in_step, sided_of_edit, still_watched}
 use Rattle.told_steps.proofs.SidedRuns.{sided, sided_as}

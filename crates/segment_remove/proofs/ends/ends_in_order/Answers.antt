@@ -1,7 +1,8 @@
 use Rattle.std.proofs.Common.{map, ap, ◌∙◌}
 use Rattle.segment_remove.specs.Ends.{AreEnds}
-use Rattle.segment_remove.proofs.EndsOf.{ends_are, if_ok, key_ties}
+use Rattle.segment_remove.proofs.EndsOf.{ends_are, if_ok}
 use Rattle.segment_remove.proofs.ends.ends_in_order.Goals as goal
+use Rattle.record_orders.proofs.VertexKeys.{key_ties}
 
 pub returns : goal.returns
 returns c =

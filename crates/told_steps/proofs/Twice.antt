@@ -9,7 +9,7 @@ use Rattle.arr_notes.specs.AfterAround.{after_in}
 use Rattle.arr_notes.specs.Curves.{is_forward}
 use Rattle.rotation_order.proofs.Circuits.{after_out, read_after}
 use Rattle.sound_changes.specs.ChangeFits.{FitsMerge}
-use Rattle.redundant_vertices.proofs.Straight.{through, comes_back, one_line_after, turns_back}
+use Rattle.told_steps.proofs.Straight.{through, comes_back, one_line_after, turns_back}
 
 -- t is the twin of x and y what follows t, u is the twin of y and z what follows u
 pub record AreRead (v : View) (x t y u z : DartId) : Type 0 where

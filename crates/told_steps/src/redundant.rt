@@ -8,16 +8,17 @@ ghost use Rattle.dcel_records.specs.SoundMaps.{IsMapAtRest, map_of};
 ghost use Rattle.curve_history.specs.Past.{curves_on, SameLayer, SameHistoryCapacity};
 ghost use Rattle.observer_bus.specs.Rows.{bus_row};
 ghost use Rattle.told_steps.specs.ToldRuns.{AreInStep};
-ghost use Rattle.redundant_vertices.specs.Left.{AreOthersGone};
-ghost use Rattle.redundant_vertices.specs.Tidied.{IsVertexTidied};
+ghost use Rattle.told_steps.specs.Left.{AreOthersGone};
+ghost use Rattle.told_steps.specs.Tidied.{IsVertexTidied};
 
+use crate::edges::merge_edge;
 use crate::through::joinable;
+use crate::vertices::remove_vertex;
 use curve_history::History;
 use dcel_records::Records;
 use observer_bus::Bus;
 use slab_laws::{Darts, VertexId};
 use std::alloc::Global;
-use told_steps::{merge_edge, remove_vertex};
 
 /// An unpinned vertex that is redundant goes: it has no edge, or two on one line with the same sides of curves, which become one
 /// (CGAL manual, removing a curve: vertices that become redundant).

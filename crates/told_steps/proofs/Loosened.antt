@@ -23,9 +23,9 @@ use Rattle.told_steps.specs.SidedRuns.{IsSidedRun}
 use Rattle.told_steps.specs.StrandRuns.{IsStrandRun, strand_graph}
 use Rattle.told_steps.specs.ToldRuns.{IsToldRun}
 use Rattle.told_steps.proofs.SidedRuns.{none_sided, sided}
-use Rattle.redundant_vertices.specs.Tidied.{CanJoin, IsTidied}
-use Rattle.redundant_vertices.proofs.Passed.{bare_untouched, loose_fits, passed, touched}
-use Rattle.redundant_vertices.proofs.Straight.{one_first, one_second}
+use Rattle.told_steps.specs.Tidied.{CanJoin, IsTidied}
+use Rattle.told_steps.proofs.Passed.{bare_untouched, loose_fits, passed, touched}
+use Rattle.told_steps.proofs.Straight.{one_first, one_second}
 use Rattle.integers.proofs.Tests.{not_true}
 
 -- ---- which step takes the vertex away

@@ -41,10 +41,10 @@ use Rattle.told_steps.specs.SidedRuns.{IsSidedRun}
 use Rattle.told_steps.specs.StrandRuns.{strand_graph}
 use Rattle.told_steps.specs.ToldRuns.{AreInStep}
 use Rattle.told_steps.proofs.SidedRuns.{none_sided, sided_as, sided_then}
-use Rattle.redundant_vertices.specs.Left.{AreLeft, tidying}
-use Rattle.redundant_vertices.specs.Tidied.{IsTidied}
-use Rattle.redundant_vertices.proofs.Missing.{known, missing_ascend, missing_in, missing_out, none_missing, one_missing, one_step_on, same_missing, unknown}
-use Rattle.redundant_vertices.proofs.Stayed.{other_stays, tidied_in_step}
+use Rattle.told_steps.specs.Left.{AreLeft, tidying}
+use Rattle.told_steps.specs.Tidied.{IsTidied}
+use Rattle.told_steps.proofs.Missing.{known, missing_ascend, missing_in, missing_out, none_missing, one_missing, one_step_on, same_missing, unknown}
+use Rattle.told_steps.proofs.Stayed.{other_stays, tidied_in_step}
 
 points_ascend : (v : View) (h : Curves) → IsAscending point_cmp (drawn_graph v h).points
 unfolding drawn_graph

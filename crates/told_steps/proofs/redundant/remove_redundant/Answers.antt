@@ -2,9 +2,9 @@ use Rattle.std.proofs.Common.{sym, refl, ◌∙◌}
 use Rattle.slab_laws.specs.View.{vertex_id}
 use Rattle.dcel_records.specs.SoundMaps.{map_of}
 use Rattle.dcel_records.proofs.Spared.{none_spent, spare_then}
-use Rattle.redundant_vertices.proofs.Onward.{all_next, none_tidied, pinned_next, same_histories, same_records, tidied_next}
-use Rattle.redundant_vertices.proofs.redundant.remove_redundant.Goals as goal
-use Rattle.redundant_vertices.proofs.redundant.remove_redundant.Goals.{then-not-pinned, else-not-pinned}
+use Rattle.told_steps.proofs.Onward.{all_next, none_tidied, pinned_next, same_histories, same_records, tidied_next}
+use Rattle.told_steps.proofs.redundant.remove_redundant.Goals as goal
+use Rattle.told_steps.proofs.redundant.remove_redundant.Goals.{then-not-pinned, else-not-pinned}
 use Rattle.told_steps.proofs.Moved.{same_layers}
 
 pub loop-vertex-init : goal.loop-vertex-init

@@ -2,8 +2,8 @@ use Rattle.dcel_records.proofs.Spared.{none_spent}
 use Rattle.dcel_records.specs.SoundMaps.{map_of}
 use Rattle.curve_history.specs.Past.{curves_on, strands_on}
 use Rattle.curve_history.proofs.Sides.{strands_of_edges}
-use Rattle.redundant_vertices.proofs.Loosened.{bare_goes, bare_step, goes_told, joined_alike, joined_go, joined_step, not_joinable, stays_told}
-use Rattle.redundant_vertices.proofs.redundant.remove_if_redundant.Goals as goal
+use Rattle.told_steps.proofs.Loosened.{bare_goes, bare_step, goes_told, joined_alike, joined_go, joined_step, not_joinable, stays_told}
+use Rattle.told_steps.proofs.redundant.remove_if_redundant.Goals as goal
 
 pub returns-in_default-clause-tidied : goal.returns-in_default-clause-tidied
 returns-in_default-clause-tidied g c =

@@ -1,8 +1,8 @@
 use Rattle.std.proofs.Common.{true, false, sym, subst, ◌∙◌}
 use Rattle.slab_laws.specs.View.{HasVertex}
-use Rattle.redundant_vertices.proofs.Told.{one_name, two_names, one_line, two_lines, goes}
-use Rattle.redundant_vertices.proofs.Twice.{read, target_has, second_out, third_first, one_line_second, second_turns, up_from_first, up_from_second, never_both}
-use Rattle.redundant_vertices.proofs.through.straight_through.Goals as goal
+use Rattle.told_steps.proofs.LinesThrough.{one_name, two_names, one_line, two_lines, goes}
+use Rattle.told_steps.proofs.Twice.{read, target_has, second_out, third_first, one_line_second, second_turns, up_from_first, up_from_second, never_both}
+use Rattle.told_steps.proofs.through.straight_through.Goals as goal
 
 pub twin-into_second-requires : goal.twin-into_second-requires
 twin-into_second-requires c = (second_out c.args.records.now.graph c.args.w c.requires.sound c.args.first c.twin-into_first.result c.next-second.result c.requires.first c.twin-into_first.ensures.twin c.next-second.ensures).0

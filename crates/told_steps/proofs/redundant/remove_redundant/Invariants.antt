@@ -3,8 +3,8 @@ use Rattle.dcel_records.specs.RecordsView.{IsSpareFaces, SameRecordCapacity}
 use Rattle.dcel_records.specs.SoundMaps.{IsMapAtRest, map_of}
 use Rattle.curve_history.specs.Past.{SameLayer, SameHistoryCapacity}
 use Rattle.observer_bus.specs.Rows.{bus_row}
-use Rattle.redundant_vertices.proofs.Onward.{AreTidied}
-use Rattle.redundant_vertices.proofs.redundant.remove_redundant.Given as goal
+use Rattle.told_steps.proofs.Onward.{AreTidied}
+use Rattle.told_steps.proofs.redundant.remove_redundant.Given as goal
 
 abbrev pub invariant-loop-vertex : goal.invariant-loop-vertex
 invariant-loop-vertex g l = record {

@@ -22,7 +22,7 @@ use Rattle.told_steps.proofs.Stays.{IsSamePlace}
 use Rattle.told_steps.proofs.Edits.{one_of}
 use Rattle.told_steps.proofs.ToldTogether.{told_runs_lawful}
 use Rattle.told_steps.specs.ToldRuns.{AreInStep}
-use Rattle.redundant_vertices.specs.Tidied.{IsTidied}
+use Rattle.told_steps.specs.Tidied.{IsTidied}
 
 step_shrinks : (r : Point) (g : Graph) → Shrinks (tidy_step r g)
 unfolding tidy_step

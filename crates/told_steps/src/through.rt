@@ -3,7 +3,7 @@ ghost use Rattle.slab_laws.specs.Sound.{IsGraphSound};
 ghost use Rattle.slab_laws.specs.View.{HasVertex, IsOutOf};
 ghost use Rattle.arr_notes.specs.Curves.{AreCurvesOf};
 ghost use Rattle.curve_history.specs.Past.{curves_on};
-ghost use Rattle.redundant_vertices.specs.Tidied.{AreStraight, AreJoinable, IsMergeableAt};
+ghost use Rattle.told_steps.specs.Tidied.{AreStraight, AreJoinable, IsMergeableAt};
 
 use curve_history::History;
 use dcel_records::Records;

@@ -1,7 +1,7 @@
 use Rattle.std.proofs.Common.{◌∙◌, sym, ap}
 use Rattle.curve_history.specs.Past.{strands_on}
-use Rattle.redundant_vertices.proofs.Straight.{one_first, one_second}
-use Rattle.redundant_vertices.proofs.through.joinable.Goals as goal
+use Rattle.told_steps.proofs.Straight.{one_first, one_second}
+use Rattle.told_steps.proofs.through.joinable.Goals as goal
 
 pub returns-then-same_strands : goal.returns-then-same_strands
 returns-then-same_strands c = (c.in_ok-d.ensures, c.same_strands.ensures.same c.if-same_strands.true)

@@ -1,8 +1,8 @@
 use Rattle.std.proofs.Common.{inr}
 use Rattle.curve_history.specs.Past.{strands_on}
 use Rattle.curve_history.proofs.Sides.{strands_of_edges}
-use Rattle.redundant_vertices.proofs.Passed.{bare_stops, loose_fits, passed}
-use Rattle.redundant_vertices.proofs.through.is_mergeable.Goals as goal
+use Rattle.told_steps.proofs.Passed.{bare_stops, loose_fits, passed}
+use Rattle.told_steps.proofs.through.is_mergeable.Goals as goal
 
 pub returns-in_default-clause-not_passed : goal.returns-in_default-clause-not_passed
 returns-in_default-clause-not_passed c e = bare_stops c.args.records.now.graph (strands_on c.args.history.now) c.args.w c.requires.sound (strands_of_edges c.args.records.now.graph c.args.history.now c.requires.curves) c.requires.vertex c.in_default.ensures.none
