@@ -1,0 +1,4 @@
+pub mod Turns
+pub mod FaceWalks
+pub mod WholeWalks
+pub mod Listed

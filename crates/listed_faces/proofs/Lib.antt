@@ -1,0 +1,4 @@
+pub mod OnceListed
+pub mod KeptDarts
+pub mod FoundVertices
+pub mod Located

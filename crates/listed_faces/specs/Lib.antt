@@ -1,0 +1,3 @@
+pub mod FaceParts
+pub mod Boundaries
+pub mod Located
