@@ -27,7 +27,7 @@ use Rattle.face_location.specs.Spots.{IsSpotOf}
 use Rattle.face_ranks.specs.Ranks.{rank_in}
 use Rattle.face_ranks.proofs.Located.{rank_is}
 use Rattle.told_steps.specs.RecordLayers.{IsLayer, layer_of}
-use Rattle.arrangement.specs.FacesRead.{face_left, IsIsolatedIn}
+use Rattle.listed_faces.specs.FaceParts.{face_left, IsIsolatedIn}
 use Rattle.arrangement.proofs.Located.{at_vertex, on_edge, in_face, face_there}
 
 module _ (v : View) (h : Past) (l : IsLayer v h) (f : Faces) (s : IsSound v f) (a : FaceId) (n : ℕ) (e : n ≡ rank_in v f a) where

@@ -2,15 +2,13 @@
 use Rattle.std.proofs.Common.{◌≡◌, ◌<◌, Bool, true, false, cond, refl, sym, ap, ◌∙◌, subst, ◌⊎◌, inl, inr, List, [], ◌∷◌, ◌++◌, map}
 use Rattle.std.specs.Prelude.{IfOk, Option, None, Some, Result}
 use Rattle.std.specs.List.{filter}
-use Rattle.std.proofs.lemmas.Bool.{false≢true}
 use Rattle.std.proofs.lemmas.List.{map-append}
 use Rattle.std.proofs.lemmas.Result.{IfOk-weaker}
 use Rattle.std.proofs.lemmas.List.Elements.{filter-append}
 use Rattle.plane_graphs.specs.Ascending.{Member}
-use Rattle.plane_graphs.proofs.Lists.{in_left, in_right, in_either, in_filter, of_filter, of_map}
+use Rattle.plane_graphs.proofs.Lists.{in_filter, of_filter, of_map}
 use Rattle.slab_laws.specs.declared.names.CycleId.{CycleId}
 use Rattle.slab_laws.specs.declared.names.CycleKind.{CycleKind}
-use Rattle.slab_laws.specs.declared.names.CycleKind.TheVariants.{Outer, Inner}
 use Rattle.slab_laws.specs.declared.names.DartId.{DartId}
 use Rattle.slab_laws.specs.declared.names.FaceId.{FaceId}
 use Rattle.slab_laws.specs.declared.names.VertexId.{VertexId}
@@ -21,31 +19,11 @@ use Rattle.dcel_records.specs.SoundMaps.{IsSoundMap}
 use Rattle.counted_looks.proofs.ListReads.{IsReading, reads_first, one_more_read, fewer_left, there, all_read}
 use Rattle.counted_looks.proofs.PartsSeen.{vertex_same, vertex_exact, vertex_itself, isolated_left}
 pub use Rattle.lower_envelope.proofs.Boundaries.{AreCyclesRead, cycles_begin, cycles_end, cycle_listed, cycles_nearer, cycles_go_on}
-use Rattle.arrangement.specs.FacesRead.{AreBoundariesOf, AreJust, IsBoundaryOf, IsIsolatedIn, is_kind, kept_darts}
-
--- ---- one more at the end
-module _ {X : Type 0} where
-  pub pushed_once : (xs : List X) (c : X) → AreOnce xs → (Member c xs → ⊥) → AreOnce (xs ++ (c ∷ []))
-  pushed_once [] c o n = (λ m. m, tt)
-  pushed_once (x ∷ xs) c o n = (
-    λ m. elim (in_either x xs (c ∷ []) m) [ inl k ↦ o.0 k | inr k ↦ elim k [ inl e ↦ n (inl (sym e)) | inr z ↦ z ] ],
-    pushed_once xs c o.1 (λ m. n (inr m)),
-  )
-
-  pub pushed_in : (x : X) (xs : List X) (c : X) → Member x (xs ++ (c ∷ [])) → Member x xs ⊎ (x ≡ c)
-  pushed_in x xs c m = elim (in_either x xs (c ∷ []) m) [ inl k ↦ inl k | inr k ↦ elim k [ inl e ↦ inr e | inr z ↦ absurd z ] ]
-
-  pub in_pushed : (x : X) (xs : List X) (c : X) → Member x xs ⊎ (x ≡ c) → Member x (xs ++ (c ∷ []))
-  in_pushed x xs c (inl k) = in_left x xs (c ∷ []) k
-  in_pushed x xs c (inr e) = in_right x xs (c ∷ []) (inl e)
-
-  pub filtered_once : (p : X → Bool) (xs : List X) → AreOnce xs → AreOnce (filter p xs)
-  filtered_once p [] o = tt
-  filtered_once p (x ∷ xs) o = go (p x) (filtered_once p xs o.1)
-    where
-      go : (b : Bool) → AreOnce (filter p xs) → AreOnce (cond b (x ∷ filter p xs) (filter p xs))
-      go true k = (λ m. o.0 ((of_filter p x xs m).0), k)
-      go false k = k
+use Rattle.dart_walks.specs.DartWalks.{AreJust}
+use Rattle.listed_faces.specs.FaceParts.{AreBoundariesOf, IsBoundaryOf, IsIsolatedIn, is_kind}
+use Rattle.listed_faces.proofs.KeptDarts.{kind_is, itself}
+use Rattle.listed_faces.proofs.OnceListed.{filtered_once}
+use Rattle.arrangement.specs.FacesRead.{kept_darts}
 
 -- one more is taken, where it passes
 pub taken : {X Y : Type 0} (g : X → Y) (p : X → Bool) (done : List X) (c : X) (items : List Y) → items ≡ map g (filter p done) → items ++ cond (p c) (g c ∷ []) [] ≡ map g (filter p (done ++ (c ∷ [])))
@@ -91,16 +69,6 @@ module _ (f : Faces) (l : Lists) (a : FaceId) (ls : AreFacesListed f l) (at : Op
             (one_more_read vertex_same vertex_exact vertex_itself (l.bare a) w T S (ls.bare_once a) come_to k)
 
 -- ---- what the lists mean
-kind_is : (k m : CycleKind) → is_kind k m ≡ true → m ≡ k
-kind_is Outer Outer h = refl
-kind_is Outer Inner h = absurd (false≢true h)
-kind_is Inner Outer h = absurd (false≢true h)
-kind_is Inner Inner h = refl
-
-itself : (k : CycleKind) → is_kind k k ≡ true
-itself Outer = refl
-itself Inner = refl
-
 pub isolated_are : (f : Faces) (l : Lists) (a : FaceId) (ws : List VertexId) → AreFacesListed f l → ws ≡ l.bare a → AreJust (IsIsolatedIn f a) ws
 isolated_are f l a ws ls e = subst (AreJust (IsIsolatedIn f a)) (sym e) (record { just = λ w. ls.bare a w; once = ls.bare_once a })
 

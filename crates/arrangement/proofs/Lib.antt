@@ -7,7 +7,6 @@ pub mod Ends
 mod Located
 mod Started
 pub mod FacesRead
-pub mod FaceWalks
 mod FaceNumbers
 pub mod PresentsRead
 pub mod OverlayRows

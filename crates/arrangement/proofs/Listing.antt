@@ -27,7 +27,7 @@ use Rattle.record_orders.specs.Keys.{dart_key, dart_keys}
 use Rattle.record_orders.proofs.EdgeEnds.{ahead}
 use Rattle.curve_history.specs.Past.{Past, curves_on}
 use Rattle.told_steps.specs.RecordLayers.{IsLayer, layer_of}
-use Rattle.arrangement.specs.FacesRead.{AreJust}
+use Rattle.dart_walks.specs.DartWalks.{AreJust}
 use Rattle.arrangement.specs.Listed.{forward_ends, goes_forward}
 
 -- ---- edges by their ends

@@ -30,9 +30,9 @@ use Rattle.curve_history.specs.Past.{Past, curves_on, strands_on}
 use Rattle.polygon_sets.proofs.NamesSummed.{round_summed}
 use Rattle.polygon_sets.proofs.OddRows.{changed}
 use Rattle.told_steps.specs.RecordLayers.{IsLayer, layer_of}
-use Rattle.arrangement.specs.FacesRead.{AreRound}
+use Rattle.dart_walks.specs.DartWalks.{AreRound}
 use Rattle.arrangement.specs.OddEnds.{lesser_of}
-use Rattle.arrangement.proofs.FaceWalks.{IsRoundSoFar, none_round}
+use Rattle.dart_walks.proofs.FaceWalks.{IsRoundSoFar, none_round}
 use Rattle.arrangement.proofs.PiecesCounted.{sides_counted}
 
 -- q doesn't come before what was found

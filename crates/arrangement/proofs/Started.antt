@@ -7,22 +7,13 @@ use Rattle.std.proofs.lemmas.List.{length-take-le, take_more_set}
 use Rattle.exact_plane.specs.declared.bounds.TheConstants.{MAX_SIDES}
 use Rattle.exact_plane.specs.Point.{Point, point_eq}
 use Rattle.exact_plane.specs.PointOrder.{point_cmp}
-use Rattle.exact_plane.specs.PointOrderLaws.{point_cmp_ties, same_point}
+use Rattle.exact_plane.specs.PointOrderLaws.{one_point}
 use Rattle.exact_plane.specs.Segment.{Segment}
 use Rattle.slab_laws.specs.View.{View, Faces}
 use Rattle.dcel_records.specs.declared.spot.Spot.{Spot}
 use Rattle.face_location.specs.Spots.{IsSpotOf}
 use Rattle.path_zone.specs.PathZone.{has_behind, is_begun, AreStarts, AreStartsAmong}
 use Rattle.arrangement.specs.PathStarts.{IsStartAmong}
-
-tied : (o : Ordering) → is_eq o ≡ true → o ≡ Equal
-tied Less h = cc
-tied Equal h = refl
-tied Greater h = cc
-
--- points that a test finds equal are one
-pub one_point : (p q : Point) → point_eq p q ≡ true → p ≡ q
-one_point p q h = same_point p q (tied (point_cmp p q) (sym (point_cmp_ties p q) ∙ h))
 
 module _ (v : View) (f : Faces) (all : List Segment) where
   starts_more : (ss : List Segment) (ps : List Spot) (s : Segment) (p : Spot) → AreStartsAmong v f all ss ps → (is_begun all s ≡ false → IsSpotOf v f s.lower p) → AreStartsAmong v f all (ss ++ (s ∷ [])) (ps ++ (p ∷ []))

@@ -43,6 +43,7 @@ use Rattle.zone_walk.proofs.MeetingPoints.{MeetsAt, vertex, meetings_ascend}
 use Rattle.zone_walk.proofs.Stretches.{meets_lies, meets_proper, told, listed}
 use Rattle.arrangement.specs.Zones.{is_met}
 use Rattle.arrangement.proofs.Located.{at_vertex, on_edge, in_face}
+use Rattle.integers.proofs.Decisions.{or_out}
 
 -- ---- where a point of the segment lies
 module _ (v : View) (f : Faces) (g : Segment) (x : Point) (proper : IsProper x) (on : is_on_segment g x ≡ true) where
@@ -99,10 +100,6 @@ in_darts d (at ∷ parts) (inl i) = subst (λ (k : Spot). Member d (darts_among 
 in_darts d (at ∷ parts) (inr m) = later at parts d (in_darts d parts m)
 
 -- ---- what the test of a plan says
-one_of : (a b : Bool) → a || b ≡ true → (a ≡ true) ⊎ (b ≡ true)
-one_of true b e = inl refl
-one_of false b e = inr e
-
 neither : (a b : Bool) → a || b ≡ false → (a ≡ false) × (b ≡ false)
 neither true b e = absurd (false≢true (sym e))
 neither false b e = (refl, e)
@@ -191,7 +188,7 @@ module _ (v : View) (h : Past) (l : IsLayer v h) (f : Faces) (s : IsSound v f) w
         ⊎_elim
         (λ o. let d = first_one z.overlapped o in by_edge d.0 (zone.overlapped d.0 (from_member z.overlapped d.0 d.1)))
         (λ a. let m = any_out (λ (m : Meeting). is_met m.spot) z.vertices a in (m.0.point, by_meeting m.0 m.1 m.2))
-        (one_of (not (length z.overlapped == 0)) (list_any (λ (m : Meeting). is_met m.spot) z.vertices) e)
+        (or_out (not (length z.overlapped == 0)) (list_any (λ (m : Meeting). is_met m.spot) z.vertices) e)
 
     -- ---- nothing is met
     module _ (none : meets_any ≡ false) where

@@ -10,7 +10,7 @@ use Rattle.slab_laws.specs.Subdivision.{holds, rank}
 use Rattle.slab_laws.specs.View.{HasDart, HasFace}
 use Rattle.face_ranks.specs.Ranks.{rank_in}
 use Rattle.arrangement.specs.Arranged.{Arranged, subdivision_by}
-use Rattle.arrangement.specs.FacesRead.{face_left, IsIsolatedIn}
+use Rattle.listed_faces.specs.FaceParts.{face_left, IsIsolatedIn}
 
 -- the number of a face is its rank: that of the face on the left of each dart on its boundary, and of the one round each isolated vertex in it (this project)
 pub record IsNumberOf (a : Arranged) (f : FaceId) (n : ℕ) : Type 0 where

@@ -1,29 +1,22 @@
 ghost use Rattle.std.specs.Prelude.{◌≡◌, ◌++◌, [], ◌∷◌, cond, IfOk, IfSome, IfNone, OnOk};
-ghost use Rattle.slab_laws.specs.FacesSound.{IsSound};
-ghost use Rattle.slab_laws.specs.Sound.{IsGraphSound};
-ghost use Rattle.slab_laws.specs.View.{HasCycle, HasDart, HasVertex, HasFace, kind_in, source_in};
+ghost use Rattle.std.specs.List.{AllByRecursion};
+ghost use Rattle.slab_laws.specs.View.{HasCycle, HasDart, HasVertex, HasFace, kind_in};
 ghost use Rattle.dcel_records.specs.RecordsView.{lists_of, tables_of};
 ghost use Rattle.arrangement.specs.Arranged.{arranged};
 ghost use Rattle.arrangement.specs.FaceNumbers.{IsFaceAt, IsInNoFace, IsNumberOf};
-ghost use Rattle.arrangement.specs.FacesRead.{AreAlong, AreBoundariesOf, AreJust, AreRound, IsIsolatedIn, face_left, is_kind, kept_darts};
+ghost use Rattle.arrangement.specs.FacesRead.{kept_darts};
+ghost use Rattle.dart_walks.specs.DartWalks.{AreAlong, AreJust, AreRound};
+ghost use Rattle.listed_faces.specs.FaceParts.{AreBoundariesOf, IsIsolatedIn, face_left, is_kind};
 
 use crate::arrangement::Arrangement;
 use crate::spots::walk_to;
+use dart_walks::{Along, Round};
 use dcel_records::{Records, Spot};
 use exact_plane::Point;
+use listed_faces::is_kind;
 use no_memory::NoMemory;
 use slab_laws::{CycleId, CycleKind, DartId, Darts, FaceId, FaceLists, Faced, VertexId};
 use std::alloc::Global;
-
-// Whether a kind is the one that is asked for.
-fn is_kind(asked: CycleKind, kind: CycleKind) -> bool
-    ensures { result ≡ is_kind asked kind }
-{
-    match asked {
-        CycleKind::Outer => kind.is_outer(),
-        CycleKind::Inner => !kind.is_outer(),
-    }
-}
 
 // Appends the dart that is kept for a cycle, where this is of the kind.
 fn push_of_kind(
@@ -80,40 +73,6 @@ fn listed_isolated(
     Ok(found)
 }
 
-// The darts of a boundary, from one of them on.
-fn follow_boundary(alloc: Global, records: &Records, first: DartId) -> Result<Vec<DartId>, NoMemory>
-    requires sound { IsSound records.now.graph (tables_of records.now) }
-    requires first { HasDart records.now.graph first }
-    ensures { IfOk result (λ v. AreAlong records.now.graph (tables_of records.now) first v.items) }
-{
-    let mut found = Vec::new(alloc);
-    let mut dart = first;
-    'cycle: loop {
-        found.push(dart)?;
-        dart = records.next(dart);
-        if dart == first {
-            return Ok(found);
-        }
-    }
-}
-
-// The darts out of a vertex clockwise, from one of them on.
-fn turn_round(alloc: Global, records: &Records, first: DartId) -> Result<Vec<DartId>, NoMemory>
-    requires sound { IsGraphSound records.now.graph }
-    requires first { HasDart records.now.graph first }
-    ensures { IfOk result (λ v. AreRound records.now.graph (source_in records.now.graph first) v.items) }
-{
-    let mut found = Vec::new(alloc);
-    let mut dart = first;
-    'ring: loop {
-        found.push(dart)?;
-        dart = records.next(records.twin(dart));
-        if dart == first {
-            return Ok(found);
-        }
-    }
-}
-
 impl Arrangement {
     /// The face that a point lies in, by its name; `None` where the point is a vertex or lies on an edge (CGAL manual, point location).
     ///
@@ -161,8 +120,19 @@ impl Arrangement {
         kept_boundaries(self.alloc, &self.layer.records, face, kind)
     }
 
-    /// The darts of the boundary that a dart is on, from this one on, each followed by the next one; the face lies on the left of all
+    /// Once along the boundary that a dart is on, from this one on, each dart followed by the next one; the face lies on the left of all
     /// (CGAL manual, `Ccb_halfedge_circulator`).
+    ///
+    /// One look at each dart, when it comes. It takes no memory.
+    pub fn along(&self, dart: DartId) -> Along<'_, Records>
+        requires dart { HasDart (arranged Observer-dyn self.now).graph dart }
+        ensures along { let a = arranged Observer-dyn self.now in AreAlong a.graph a.faces dart result }
+        ensures have { AllByRecursion (HasDart (arranged Observer-dyn self.now).graph) result }
+    {
+        Along::new(&self.layer.records, dart)
+    }
+
+    /// The same darts in a list.
     ///
     /// One look at each dart of the boundary.
     ///
@@ -173,7 +143,7 @@ impl Arrangement {
         requires dart { HasDart (arranged Observer-dyn self.now).graph dart }
         ensures along { let a = arranged Observer-dyn self.now in IfOk result (λ v. AreAlong a.graph a.faces dart v.items) }
     {
-        follow_boundary(self.alloc, &self.layer.records, dart)
+        self.along(dart).list(self.alloc)
     }
 
     /// The isolated vertices in a face (CGAL manual, `isolated_vertices`).
@@ -204,9 +174,20 @@ impl Arrangement {
         records.face(records.cycle(dart))
     }
 
-    /// The darts out of a vertex, clockwise; the faces on their left are those round the vertex (CGAL manual,
+    /// Once round a vertex clockwise, along the darts out of it; the faces on their left are those round the vertex (CGAL manual,
     /// `Halfedge_around_vertex_circulator`). There is none where the vertex is isolated, and then `bare_face` of the records is the one
     /// face round it.
+    ///
+    /// One look at each dart, when it comes. It takes no memory.
+    pub fn round(&self, vertex: VertexId) -> Round<'_, Records>
+        requires vertex { HasVertex (arranged Observer-dyn self.now).graph vertex }
+        ensures round { AreRound (arranged Observer-dyn self.now).graph vertex result }
+        ensures have { AllByRecursion (HasDart (arranged Observer-dyn self.now).graph) result }
+    {
+        Round::new(&self.layer.records, vertex)
+    }
+
+    /// The same darts in a list.
     ///
     /// One look at each of them.
     ///
@@ -217,9 +198,6 @@ impl Arrangement {
         requires vertex { HasVertex (arranged Observer-dyn self.now).graph vertex }
         ensures round { IfOk result (λ v. AreRound (arranged Observer-dyn self.now).graph vertex v.items) }
     {
-        match self.layer.records.out_of(vertex) {
-            None => Ok(Vec::new(self.alloc)),
-            Some(first) => turn_round(self.alloc, &self.layer.records, first),
-        }
+        self.round(vertex).list(self.alloc)
     }
 }

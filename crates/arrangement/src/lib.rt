@@ -14,6 +14,7 @@ mod lists;
 mod observers;
 mod odd_ends;
 mod overlaid;
+mod overlay_faces;
 mod overlays;
 mod presents;
 mod questions;
@@ -29,6 +30,7 @@ pub use arr_notes::{
 };
 pub use arrangement::Arrangement;
 pub use curve_history::{CutPlan, Drawn, History, HistoryError, LAST_CURVE, PieceIter};
+pub use dart_walks::{Along, Round};
 pub use dcel_records::{Met, RankKey, RecordCounts, Records, Room, Spot};
 pub use exact_plane::{
     Line, MAX_COORDINATE, MAX_SIDES, Path, PathError, Point, PointError, Segment, SegmentError,

@@ -4,7 +4,7 @@ ghost use Rattle.slab_laws.specs.Tables.{NamesAscend};
 ghost use Rattle.slab_laws.specs.View.{HasFace, face_id};
 ghost use Rattle.record_orders.specs.Edges.{edge_of};
 ghost use Rattle.arrangement.specs.Arranged.{arranged, layer_in};
-ghost use Rattle.arrangement.specs.FacesRead.{AreJust};
+ghost use Rattle.dart_walks.specs.DartWalks.{AreJust};
 ghost use Rattle.arrangement.specs.Listed.{curves_drawn, forward_ends};
 
 use crate::arrangement::Arrangement;

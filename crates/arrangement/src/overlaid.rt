@@ -3,7 +3,6 @@ ghost use Rattle.slab_laws.specs.View.{HasDart};
 ghost use Rattle.subdivision_rows.specs.OverlayInMemory.{graph_of as overlay_graph, edge_place_at};
 ghost use Rattle.arrangement.specs.Overlays.{text_of};
 
-use arr_text::overlay_text;
 use exact_plane::{Line, Point};
 use no_memory::NoMemory;
 use slab_laws::{CurveId, CycleId, CycleKind, DartId, Darts, FaceId, Faced, Layered, VertexId};
@@ -15,7 +14,6 @@ use subdivision_rows::Both;
 /// their curves of each layer and whose faces know the faces of each layer that hold them (CGAL manual, `overlay`).
 #[derive(Drop)]
 pub struct Overlay {
-    pub(crate) alloc: Global,
     pub(crate) both: Both,
 }
 
@@ -40,7 +38,7 @@ impl Overlay {
     pub fn text(&self) -> Result<Vec<u8>, NoMemory>
         ensures { IfOk result (λ bytes. bytes.items ≡ text_of self.now) }
     {
-        overlay_text(self.alloc, &self.both)
+        self.both.text()
     }
 
     /// How many red pieces hold the edge of a dart. A curve several of whose sides run along it counts several times.

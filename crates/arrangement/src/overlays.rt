@@ -44,5 +44,5 @@ pub fn overlay(alloc: Global, red: &Arrangement, blue: &Arrangement) -> Result<O
     drop(of_red);
     drop(of_blue);
     let both = both?;
-    Ok(Overlay { alloc, both })
+    Ok(Overlay { both })
 }

@@ -45,6 +45,18 @@ fn pins_of(
     Ok(pins)
 }
 
+// The points of the pinned vertices, in their order; where none is pinned no order is made.
+fn pins_in_order(alloc: Global, records: &Records) -> Result<Sequence<Point>, NoMemory>
+    requires { IsGraphSound records.now.graph }
+    ensures { let v = records.now.graph in IfOk result (λ s. s ≡ points_at (pinned_among v (vertex_keys v))) }
+{
+    if records.pins() == 0 {
+        return Ok(Sequence::new(alloc));
+    }
+    let vertices = vertices_in_order(alloc, records)?;
+    pins_of(alloc, records, &vertices)
+}
+
 /// What a layer has at this moment: the pieces of its history, and its pinned points, ascending.
 ///
 /// # Errors
@@ -55,7 +67,6 @@ pub(crate) fn present_of(alloc: Global, layer: &LayerRecords) -> Result<Present,
     ensures fit { IfOk result (λ p. IsFit (present_of p)) }
 {
     let pieces = pieces_of(alloc, &layer.history)?;
-    let vertices = vertices_in_order(alloc, &layer.records)?;
-    let pins = pins_of(alloc, &layer.records, &vertices)?;
+    let pins = pins_in_order(alloc, &layer.records)?;
     Ok(Present { pieces, pins })
 }

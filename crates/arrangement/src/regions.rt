@@ -21,5 +21,5 @@ pub fn region_of(overlay: &Overlay, op: Op) -> Result<Region, RegionError>
     ensures region_of_layers { (red blue : Pieces) → IsFit red → IsFit blue → TellsPiecesOf red blue overlay.now → IfOk result (λ r. IsRegionOfLayers op red blue r) }
     ensures error_of_layers { (red blue : Pieces) → IsFit red → IsFit blue → TellsPiecesOf red blue overlay.now → IfErr result (λ e. IsErrorOfLayers red blue e) }
 {
-    polygon_sets::region_of(overlay.alloc, &overlay.both, op)
+    polygon_sets::region_of(&overlay.both, op)
 }

@@ -30,7 +30,27 @@ fn draw_map(map: &mut Arrangement) -> anyhow::Result<()>
     dig(map, 1, 3, 1)
 }
 
-// How many edges each of the boundaries has that these darts are on.
+// The point at which a dart starts.
+fn corner_of(map: &Arrangement, dart: DartId) -> Point
+    requires dart { HasDart (arranged Observer-dyn map.now).graph dart }
+{
+    let records = map.records();
+    records.point(records.source(dart))
+}
+
+// The first corner of the boundary that a dart is on, by x and then by y. What the loop asks of each dart is its invariant: those that are
+// still to come have records (`proofs/neighbours/first_corner/`, one line).
+fn first_corner(map: &Arrangement, dart: DartId) -> Point
+    requires dart { HasDart (arranged Observer-dyn map.now).graph dart }
+{
+    let mut first = corner_of(map, dart);
+    'boundary: for dart in map.along(dart) {
+        first = first.min(corner_of(map, dart));
+    }
+    first
+}
+
+// How many edges each of the boundaries has that these darts are on, and its first corner.
 fn put_lengths(
     alloc: Global,
     out: &mut String,
@@ -42,7 +62,8 @@ fn put_lengths(
 {
     'boundaries: for dart in boundaries {
         let edges = map.darts_along(*dart)?.len();
-        out.push_str(&format!(in alloc; "{word}: {edges} edges\n")?)?;
+        let corner = first_corner(map, *dart);
+        out.push_str(&format!(in alloc; "{word}: {edges} edges, from {corner}\n")?)?;
     }
     Ok(())
 }

@@ -3,7 +3,7 @@ use Rattle.std.specs.List.{filter}
 use Rattle.slab_laws.specs.declared.names.CycleId.{CycleId}
 use Rattle.slab_laws.specs.View.{kind_in}
 use Rattle.dcel_records.specs.RecordsView.{RecordsView, lists_of, tables_of}
-use Rattle.arrangement.specs.FacesRead.{is_kind}
+use Rattle.listed_faces.specs.FaceParts.{is_kind}
 use Rattle.arrangement.proofs.FacesRead.{cycles_begin, cycles_end, cycle_listed, cycles_nearer, cycles_go_on, taken}
 use Rattle.arrangement.proofs.faces.kept_boundaries.Goals as goal
 

@@ -1,7 +1,7 @@
 use Rattle.std.specs.Prelude.{◌≡◌, map, filter}
 use Rattle.slab_laws.specs.View.{kind_in}
 use Rattle.dcel_records.specs.RecordsView.{lists_of, tables_of}
-use Rattle.arrangement.specs.FacesRead.{is_kind}
+use Rattle.listed_faces.specs.FaceParts.{is_kind}
 use Rattle.counted_looks.proofs.PartsSeen.{cycles_left}
 use Rattle.arrangement.proofs.FacesRead.{AreCyclesRead}
 use Rattle.arrangement.proofs.faces.kept_boundaries.Given as goal

@@ -4,7 +4,7 @@ use Rattle.slab_laws.specs.View.{View, source_in}
 use Rattle.arr_notes.specs.AfterAround.{after_in}
 use Rattle.arr_notes.proofs.Names.{same_name, other_name}
 use Rattle.rotation_order.proofs.Circuits.{left, read_after}
-use Rattle.arrangement.proofs.FaceWalks.{IsRoundSoFar, round_begins, round_ends, round_goes_on, round_nearer}
+use Rattle.dart_walks.proofs.FaceWalks.{IsRoundSoFar, round_begins, round_ends, round_goes_on, round_nearer}
 use Rattle.arrangement.proofs.OddEnds.{met_more, round_odd}
 use Rattle.arrangement.proofs.odd_ends.is_odd_round.Goals as goal
 

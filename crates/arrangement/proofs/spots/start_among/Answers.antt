@@ -1,7 +1,7 @@
 use Rattle.std.proofs.Common.{sym, ◌∙◌, arith}
 use Rattle.plane_graphs.proofs.Sorting.{any_default}
-use Rattle.arrangement.proofs.Started.{one_point}
 use Rattle.arrangement.proofs.spots.start_among.Goals as goal
+use Rattle.exact_plane.specs.PointOrderLaws.{one_point}
 
 pub returns-then-eq : goal.returns-then-eq
 returns-then-eq c = record {

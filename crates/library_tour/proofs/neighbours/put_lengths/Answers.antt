@@ -6,3 +6,6 @@ use Rattle.library_tour.proofs.neighbours.put_lengths.Goals as goal
 -- each dart of the list has a record
 pub darts_along-requires : goal.darts_along-requires
 darts_along-requires g c = record { dart = c.requires.darts (slice_index_or c.args.boundaries.now c.boundaries.dart-index (dart_id 0)) (member_at c.args.boundaries.now c.boundaries.dart-index (dart_id 0) c.boundaries-test.true) }
+
+pub first_corner-requires : goal.first_corner-requires
+first_corner-requires g c = record { dart = c.requires.darts (slice_index_or c.args.boundaries.now c.boundaries.dart-index (dart_id 0)) (member_at c.args.boundaries.now c.boundaries.dart-index (dart_id 0) c.boundaries-test.true) }
