@@ -1,9 +1,9 @@
 -- What the box of a cycle tells of the ends of each dart on it.
-use Rattle.std.proofs.Common.{◌≡◌, Bool, true, ◌&&◌, ℤ, ◌<ℤ◌, ◌≤ℤ◌, arith, inl, inr, ap, ◌∙◌, subst}
+use Rattle.std.proofs.Common.{◌≡◌, true, ◌&&◌, ℤ, ◌<ℤ◌, ◌≤ℤ◌, arith, inl, inr, ◌∙◌, subst}
 use Rattle.std.specs.Prelude.{int_lt}
 use Rattle.std.proofs.lemmas.Bool.{or_left, or_right}
 use Rattle.std.proofs.lemmas.Int.{ints}
-use Rattle.integers.proofs.Decisions.{lt_in, lt_out, or_out}
+use Rattle.integers.proofs.Decisions.{lt_in, lt_out, or_out, both_in}
 use Rattle.exact_plane.specs.WholeParts.{whole_parts, are_beyond, excludes, is_left_or_right_of}
 use Rattle.exact_plane.specs.declared.whole_parts.BoundingBox.{BoundingBox}
 use Rattle.exact_plane.specs.declared.whole_parts.WholeParts.{WholeParts}
@@ -14,13 +14,10 @@ use Rattle.slab_laws.specs.FacesSound.{IsSound}
 use Rattle.slab_laws.specs.View.{View, Faces, HasDart, cycle_in, next_in, point_in, source_in, target_in}
 use Rattle.boundary_cycles.proofs.NamedWalks.{lead_step}
 use Rattle.dcel_records.specs.Areas.{Covers}
-use Rattle.counted_looks.specs.Boxes.{are_apart, are_ranges_apart, is_beside}
+use Rattle.exact_plane.specs.Boxes.{are_apart, are_ranges_apart, is_beside}
 use Rattle.counted_looks.specs.CycleLooks.{HasEnds}
 
 -- ---- numbers between two others
-both_in : (b c : Bool) → b ≡ true → c ≡ true → (b && c) ≡ true
-both_in b c h k = ap (λ x. x && c) h ∙ k
-
 at_most_less : (x y z : ℤ) → x ≤ℤ y → y <ℤ z → x <ℤ z
 at_most_less x y z h k = omega (arith, ints)
 

@@ -1,4 +1,3 @@
 pub mod Looks
 pub mod Boundaries
-pub mod Boxes
 pub mod CycleLooks

@@ -2,3 +2,9 @@ pub mod Sides
 pub mod Heights
 pub mod CellsBeside
 pub mod DartsAbove
+pub mod Seen
+pub mod Uprights
+pub mod SidesKept
+pub mod FaceBelow
+pub mod Levels
+pub mod AboveSteps

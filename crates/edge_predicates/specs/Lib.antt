@@ -1,1 +1,5 @@
 pub mod CellsAbove
+pub mod Highest
+pub mod Above
+pub mod FaceLaws
+pub mod Levels

@@ -17,10 +17,10 @@ use Rattle.slab_faces.proofs.Walls.{side-upper, over-upper, left_of-before}
 use Rattle.slab_faces.proofs.OverUnder.{under_not_over, zero_not_over, zero_not_under, under_out}
 use Rattle.slab_faces.proofs.Points.{before_asym, before_irrefl, before_on_wall, before_left}
 use Rattle.slab_faces.proofs.Along.{upright_right}
-use Rattle.edges_below.specs.Highest.{IsSpanning}
-use Rattle.edges_below.proofs.Seen.{slanted}
-use Rattle.edges_below.proofs.Sides.{above_below}
-use Rattle.edges_below.proofs.Uprights.{above_later, above_fan}
+use Rattle.edge_predicates.specs.Highest.{IsSpanning}
+use Rattle.edge_predicates.proofs.Seen.{slanted}
+use Rattle.edge_predicates.proofs.SidesKept.{above_below}
+use Rattle.edge_predicates.proofs.Uprights.{above_later, above_fan}
 use Rattle.sweep_status.proofs.Parts.{within_take, within_drop, first_parted}
 use Rattle.edge_sweep.specs.Around.{IsLowestAbove, none_above, lowest}
 use Rattle.edge_sweep.specs.Fronts.{stack_cmp, AreOrdered, IsStackAt, IsProperGraph}

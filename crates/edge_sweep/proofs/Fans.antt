@@ -24,10 +24,11 @@ use Rattle.slab_laws.specs.SpansDrawn.{edge_of}
 use Rattle.slab_faces.proofs.OverUnder.{under_in, weak_under}
 use Rattle.slab_faces.proofs.Points.{before_irrefl}
 use Rattle.edge_predicates.proofs.Sides.{side_same}
-use Rattle.edges_below.proofs.Uprights.{above_fan, never_inside}
+use Rattle.edge_predicates.proofs.Uprights.{above_fan, never_inside}
 use Rattle.edge_sweep.specs.Fronts.{are_stacked}
 use Rattle.edge_sweep.proofs.Passed.{low_first}
 use Rattle.edge_sweep.proofs.Stacks.{stacked_from}
+use Rattle.edge_predicates.proofs.SidesKept.{turned}
 
 -- ---- lines through one point
 -- the side of a point of the steeper line, beyond the common point, against the line's direction
@@ -80,17 +81,6 @@ steeper_left l m p q hl hm P Q h lp mp mq n =
     ahead m.a m.b (side_of l q) p.w (q.x *ℤ p.w -ℤ p.x *ℤ q.w) (q.y *ℤ p.w -ℤ p.y *ℤ q.w) (weight_of l m) hm.runs P.range.positive (steps p q (before_of p q P Q h)) n (along l m p q lp mp mq) (upward l m p q lp mp mq)
 
 -- ---- edges
--- from one lower end, each is as much on the left of the other's upper end as that one is on its right
-pub turned : (e f : Edge) → f.low ≡ e.low → side e f.high ≡ pos 0 -ℤ side f e.high
-unfolding side
-turned e f h = by e f.high f.low h
-  where
-    by : (e : Edge) (u l : Point) → l ≡ e.low → side e u ≡ pos 0 -ℤ side (record { low = l; high = u }) e.high
-    by e u l h = subst (λ (l : Point). side e u ≡ pos 0 -ℤ side (record { low = l; high = u }) e.high) (sym h) (flip e.low.x e.low.y e.low.w e.high.x e.high.y e.high.w u.x u.y u.w)
-      where
-        flip : (a b c d e f x y w : ℤ) → (b *ℤ f -ℤ e *ℤ c) *ℤ x +ℤ (d *ℤ c -ℤ a *ℤ f) *ℤ y +ℤ (a *ℤ e -ℤ d *ℤ b) *ℤ w ≡ pos 0 -ℤ ((b *ℤ w -ℤ y *ℤ c) *ℤ d +ℤ (x *ℤ c -ℤ a *ℤ w) *ℤ e +ℤ (a *ℤ y -ℤ x *ℤ b) *ℤ f)
-        flip a b c d e f x y w = ring (a ∷ b ∷ c ∷ d ∷ e ∷ f ∷ x ∷ y ∷ w ∷ []) (search sides depth 40 fits 20000) tt
-
 -- the side by the line, back to the side by the ends
 left_by_line : (s : Span) (t : Point) → IsSpan s → pos 0 <ℤ side_of s.line t → pos 0 <ℤ side (edge_of s) t
 left_by_line s t is h = at (int_cmp (side (edge_of s) t) (pos 0)) refl

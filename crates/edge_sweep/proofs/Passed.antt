@@ -16,7 +16,7 @@ use Rattle.slab_laws.specs.Skeleton.{Skeleton, IsPlaneSkeleton, left_of, side, o
 use Rattle.slab_faces.proofs.Walls.{side-upper}
 use Rattle.slab_faces.proofs.OverUnder.{under_not_over, on_neither, zero_not_over, zero_not_under}
 use Rattle.slab_faces.proofs.Points.{before_asym, before_irrefl, before_left, before_lower}
-use Rattle.edges_below.proofs.Uprights.{above_later, above_earlier, never_inside}
+use Rattle.edge_predicates.proofs.Uprights.{above_later, above_earlier, never_inside}
 use Rattle.sweep_status.proofs.Parts.{within_take, within_drop, first_parted, append_ascends, ascends_by}
 use Rattle.edge_sweep.specs.Fronts.{stack_cmp, AreOrdered, IsStackAt, IsCutAt, IsProperGraph}
 use Rattle.edge_sweep.proofs.Parts.{in_drop, in_take, in_parts, ascends_dropped, ascends_taken, ascends_across}

@@ -21,7 +21,7 @@ use Rattle.slab_faces.proofs.Outside.{unbounded, to_first, place_in}
 use Rattle.slab_faces.proofs.EveryFace.{none_counted, edge_at, first_width}
 use Rattle.slab_faces.proofs.Searches.{best_of}
 use Rattle.slab_faces.proofs.Member.{member_in, in_member}
-use Rattle.edges_below.proofs.FaceBelow.{bottom_all}
+use Rattle.edge_predicates.proofs.FaceBelow.{bottom_all}
 use Rattle.envelope_laws.specs.declared.which.Which.{Which}
 use Rattle.envelope_laws.specs.declared.which.Which.TheVariants.{Lower, Upper}
 use Rattle.envelope_laws.specs.Envelopes.{outermost}

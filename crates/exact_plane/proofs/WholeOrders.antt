@@ -21,7 +21,7 @@ use Rattle.exact_plane.proofs.Places.{ratio_cmp-is}
 
 -- ---- whole parts and ratios
 -- the lesser whole part is of the lesser ratio
-less_ratio : (y w z v : ℤ) → pos 0 <ℤ w → pos 0 <ℤ v → whole_part y w <ℤ whole_part z v → (y *ℤ v) <ℤ (z *ℤ w)
+pub less_ratio : (y w z v : ℤ) → pos 0 <ℤ w → pos 0 <ℤ v → whole_part y w <ℤ whole_part z v → (y *ℤ v) <ℤ (z *ℤ w)
 less_ratio y w z v W V l =
     let h = less_out _ _ (sym (less_by_whole (whole_part y w) (whole_part z v) (rest_part y w) w (rest_part z v) v (is_rest y w W) (is_rest z v V) (less_in _ _ l))) in
     subst (λ t. (y *ℤ v) <ℤ (t *ℤ w)) (parts_are z v) (subst (λ t. (t *ℤ v) <ℤ ((whole_part z v *ℤ v +ℤ rest_part z v) *ℤ w)) (parts_are y w) h)

@@ -57,6 +57,10 @@ point_cmp_ties p q = both_ways _ _ there back
         let s = same_triple p q ((Equal-is (point_cmp p q)).0 e) in
         ap₂ ◌&&◌ (ap is_eq (equal_in p.x q.x s.0)) (ap₂ ◌&&◌ (ap is_eq (equal_in p.y q.y s.1)) (ap is_eq (equal_in p.w q.w s.2)))
 
+-- points that the three numbers find equal are one
+pub one_point : (p q : Point) → point_eq p q ≡ true → p ≡ q
+one_point p q h = same_point p q ((Equal-is (point_cmp p q)).0 (sym (point_cmp_ties p q) ∙ h))
+
 -- equality by the three numbers
 pub point_eq_equiv : IsEquivalence point_eq
 point_eq_equiv = and_equiv (on_equiv (λ p. p.x) int_eq_equiv) (and_equiv (on_equiv (λ p. p.y) int_eq_equiv) (on_equiv (λ p. p.w) int_eq_equiv))

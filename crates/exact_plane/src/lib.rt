@@ -7,6 +7,7 @@
 #![tactic(auto)]
 
 mod bounds;
+mod boxes;
 mod direction;
 mod line;
 mod meets;

@@ -30,6 +30,7 @@ use Rattle.face_changes.proofs.OuterCycles.{Odd, is_odd, cycle_face, one_kind, o
 use Rattle.face_changes.proofs.PartedCycle.{first_stays, one_side, others, other_kind}
 use Rattle.face_changes.proofs.OneOuterKept.{IsOuterOnce, both_outer, one_outer, sum_kind, not_both, rest_kind}
 use Rattle.face_changes.proofs.EveryPlaneGraph.{near, same_kind, alone_even, outer_once}
+use Rattle.slab_faces.proofs.OddSums.{odd_alike, alike_even}
 
 -- ---- tests of parity
 pub odd_yes : (g : Skeleton) (l : Dart) (c : SlabCell) → Odd (weight_of g l c) → odd g (dart_labels (darts g)) l c ≡ true
@@ -44,22 +45,6 @@ is_even : (g : Skeleton) (l : Dart) (c : SlabCell) → odd g (dart_labels (darts
 unfolding odd
 is_even g l c h = let k = eqb-false (weight_of g l c % 2) 1 h in omega arith
 
-same_tests : (m n : ℕ) → Even (m + n) → (m % 2 == 1) ≡ (n % 2 == 1)
-same_tests m n h = go (m % 2 == 1) (n % 2 == 1) refl refl
-  where
-    go : (b c : Bool) → (m % 2 == 1) ≡ b → (n % 2 == 1) ≡ c → b ≡ c
-    go true true p q = refl
-    go false false p q = refl
-    go true false p q = let u = eqb-true (m % 2) 1 p in let v = eqb-false (n % 2) 1 q in absurd (omega arith)
-    go false true p q = let u = eqb-false (m % 2) 1 p in let v = eqb-true (n % 2) 1 q in absurd (omega arith)
-
-back_tests : (m n : ℕ) → (m % 2 == 1) ≡ (n % 2 == 1) → Even (m + n)
-back_tests m n h = go (n % 2 == 1) refl
-  where
-    go : (c : Bool) → (n % 2 == 1) ≡ c → Even (m + n)
-    go true q = let u = eqb-true (m % 2) 1 (h ∙ q) in let v = eqb-true (n % 2) 1 q in omega arith
-    go false q = let u = eqb-false (m % 2) 1 (h ∙ q) in let v = eqb-false (n % 2) 1 q in omega arith
-
 other_tests : (m n : ℕ) → Even (m + n + 1) → (m % 2 == 1) ≡ not (n % 2 == 1)
 other_tests m n h = go (m % 2 == 1) (n % 2 == 1) refl refl
   where
@@ -71,11 +56,11 @@ other_tests m n h = go (m % 2 == 1) (n % 2 == 1) refl refl
 
 same_odd : (g h : Skeleton) (l k : Dart) (c d : SlabCell) → Even (weight_of g l c + weight_of h k d) → odd g (dart_labels (darts g)) l c ≡ odd h (dart_labels (darts h)) k d
 unfolding odd
-same_odd g h l k c d e = same_tests (weight_of g l c) (weight_of h k d) e
+same_odd g h l k c d e = odd_alike (weight_of g l c) (weight_of h k d) e
 
 back_odd : (g h : Skeleton) (l k : Dart) (c d : SlabCell) → odd g (dart_labels (darts g)) l c ≡ odd h (dart_labels (darts h)) k d → Even (weight_of g l c + weight_of h k d)
 unfolding odd
-back_odd g h l k c d e = back_tests (weight_of g l c) (weight_of h k d) e
+back_odd g h l k c d e = alike_even (weight_of g l c) (weight_of h k d) e
 
 other_odd : (g h : Skeleton) (l k : Dart) (c d : SlabCell) → Even (weight_of g l c + weight_of h k d + 1) → odd g (dart_labels (darts g)) l c ≡ not (odd h (dart_labels (darts h)) k d)
 unfolding odd

@@ -22,7 +22,7 @@ use Rattle.sound_views.proofs.ForwardDarts.{is_ahead, is_behind, target_has}
 use Rattle.sound_views.proofs.GraphDrawn.{between_forward}
 use Rattle.sound_views.proofs.NamedDarts.{edge_known}
 use Rattle.edge_predicates.proofs.Sides.{is_plus, is_zero, zero_is, minus_is, plus_is}
-use Rattle.edges_below.specs.Highest.{IsSpanning}
+use Rattle.edge_predicates.specs.Highest.{IsSpanning}
 use Rattle.dcel_records.specs.declared.spot.Met.TheVariants.{Edge as InEdge}
 use Rattle.dcel_records.specs.Spots.{IsMet}
 use Rattle.face_location.specs.Passing.{IsBelow, IsPast}

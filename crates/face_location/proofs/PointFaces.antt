@@ -21,8 +21,8 @@ use Rattle.sound_changes.proofs.KnownNames.{known_point, known_edge, points_prop
 use Rattle.face_changes.specs.FacesByPairs.{first_or, outside, beside}
 use Rattle.face_steps.specs.VertexSteps.{IsFaceRound}
 use Rattle.dcel_records.specs.Spots.{IsInFace}
-use Rattle.edges_below.specs.FaceLaws.{cell_over}
-use Rattle.edges_below.proofs.FaceBelow.{face_is_over_highest}
+use Rattle.edge_predicates.specs.FaceLaws.{cell_over}
+use Rattle.edge_predicates.proofs.FaceBelow.{face_is_over_highest}
 use Rattle.face_location.specs.Below.{edge_along, IsHighestDart}
 
 -- where names ascend and 0 is one of them, it is the first

@@ -14,9 +14,9 @@ use Rattle.slab_laws.specs.View.{View, HasDart, twin_in}
 use Rattle.sound_views.proofs.EveryEdge.{by_first}
 use Rattle.sound_views.proofs.NamedDarts.{names_are_darts}
 use Rattle.face_changes.proofs.LinkedCycles.{dart_there}
-use Rattle.edges_below.specs.Above.{is_above}
-use Rattle.edges_below.specs.Levels.{IsSeen, level, levels_to, IsSeenAtMost}
-use Rattle.edges_below.proofs.Levels.{levels_tell_highest}
+use Rattle.edge_predicates.specs.Above.{is_above}
+use Rattle.edge_predicates.specs.Levels.{IsSeen, level, levels_to, IsSeenAtMost}
+use Rattle.edge_predicates.proofs.Levels.{levels_tell_highest}
 use Rattle.face_location.specs.Below.{IsSeenDart, IsSeenOrNone, edge_along, higher_of, IsOffEdges}
 use Rattle.face_location.specs.Passing.{IsBelow, IsPast}
 

@@ -10,9 +10,9 @@ use Rattle.slab_laws.specs.View.{View, HasDart}
 use Rattle.arr_notes.specs.Curves.{IsForward}
 use Rattle.dcel_records.specs.declared.spot.Met.TheVariants.{Edge as InEdge}
 use Rattle.dcel_records.specs.Spots.{IsMet}
-use Rattle.edges_below.specs.Above.{is_above}
-use Rattle.edges_below.specs.Highest.{IsHighestBelow}
-use Rattle.edges_below.specs.Levels.{IsSeen}
+use Rattle.edge_predicates.specs.Above.{is_above}
+use Rattle.edge_predicates.specs.Highest.{IsHighestBelow}
+use Rattle.edge_predicates.specs.Levels.{IsSeen}
 use Rattle.face_location.specs.declared.below.EdgeFound.{EdgeFound}
 use Rattle.face_location.specs.declared.below.EdgeFound.TheVariants.{Through, Below}
 

@@ -5,8 +5,8 @@ use Rattle.slab_laws.specs.declared.names.DartId.{DartId}
 use Rattle.slab_laws.specs.Skeleton.{inside}
 use Rattle.slab_laws.specs.Sound.{skeleton_of, edge_in}
 use Rattle.slab_laws.specs.View.{View}
-use Rattle.edges_below.specs.Highest.{IsSpanning}
-use Rattle.edges_below.specs.Levels.{IsSeen}
+use Rattle.edge_predicates.specs.Highest.{IsSpanning}
+use Rattle.edge_predicates.specs.Levels.{IsSeen}
 use Rattle.dcel_records.specs.declared.spot.Met.TheVariants.{Edge}
 use Rattle.dcel_records.specs.Spots.{IsMet}
 use Rattle.sound_views.specs.ForwardDarts.{IsForwardOf}

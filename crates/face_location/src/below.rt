@@ -4,7 +4,7 @@ ghost use Rattle.slab_laws.specs.View.{HasDart};
 ghost use Rattle.face_location.specs.Below.{IsEdgeFound, higher_of};
 
 use crate::passing::{Passing, passing_of};
-use edges_below::is_above;
+use edge_predicates::is_above;
 use exact_plane::Point;
 use slab_laws::{DartId, Darts};
 use sound_views::{is_first, span_of};

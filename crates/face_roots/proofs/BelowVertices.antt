@@ -25,11 +25,11 @@ use Rattle.slab_faces.proofs.Along.{below_self, side_below, side_level}
 use Rattle.slab_faces.proofs.Turns.{face_sym, one_more, on_own_wall}
 use Rattle.slab_faces.proofs.EveryFace.{none_counted}
 use Rattle.slab_faces.proofs.Outside.{to_first}
-use Rattle.edges_below.specs.FaceLaws.{cell_over}
-use Rattle.edges_below.specs.Levels.{IsSeen}
-use Rattle.edges_below.specs.Highest.{IsSpanning, IsHighestBelow, none_below, highest}
-use Rattle.edges_below.proofs.FaceBelow.{bottom_all}
-use Rattle.edges_below.proofs.Seen.{reaches}
+use Rattle.edge_predicates.specs.FaceLaws.{cell_over}
+use Rattle.edge_predicates.specs.Levels.{IsSeen}
+use Rattle.edge_predicates.specs.Highest.{IsSpanning, IsHighestBelow, none_below, highest}
+use Rattle.edge_predicates.proofs.FaceBelow.{bottom_all}
+use Rattle.edge_predicates.proofs.Seen.{reaches}
 
 -- ---- at a vertex, an edge is spanned and below exactly where it reaches the wall from the right and is below
 pub reaching : (g : Skeleton) (v : Point) (e : Edge) → IsPlaneSkeleton g → Contains g.vertices v → IsSeen g v e → reaches_right e v ≡ true

@@ -16,8 +16,8 @@ use Rattle.slab_faces.proofs.Corners.{IsAt, right_fan, bottom_place}
 use Rattle.slab_faces.proofs.Round.{right_empty}
 use Rattle.slab_faces.proofs.RotationLemmas.{earlier_in, earlier_out}
 use Rattle.slab_faces.proofs.Next.{level_at_lower, turn_keeps}
-use Rattle.edges_below.specs.FaceLaws.{cell_over}
-use Rattle.edges_below.specs.Highest.{IsHighestBelow}
+use Rattle.edge_predicates.specs.FaceLaws.{cell_over}
+use Rattle.edge_predicates.specs.Highest.{IsHighestBelow}
 use Rattle.face_roots.specs.LowestDarts.{IsLowestFrom, IsNextLower, LowestIsAboveBelow}
 use Rattle.face_roots.proofs.BelowVertices.{corner_face}
 

@@ -36,8 +36,8 @@ use Rattle.face_changes.proofs.LinkedCycles.{there_dart}
 use Rattle.face_changes.proofs.OneMoreEdge.{one_kind_each, one_outer_cycle}
 use Rattle.face_roots.specs.declared.ranks.Root.{Root}
 use Rattle.face_roots.specs.declared.ranks.Root.TheVariants.{Outer, Outside, Above}
-use Rattle.edges_below.specs.FaceLaws.{cell_over}
-use Rattle.edges_below.specs.Highest.{IsHighestBelow, highest}
+use Rattle.edge_predicates.specs.FaceLaws.{cell_over}
+use Rattle.edge_predicates.specs.Highest.{IsHighestBelow, highest}
 use Rattle.face_roots.specs.CycleRanks.{root_at, is_outer_root, rank_of_root, faces_before, AreRankedBy, lead_at, IsRootOf, AreRootsOf, RanksByRoots}
 use Rattle.face_roots.proofs.FaceLinks.{lead_before}
 use Rattle.face_roots.proofs.InnerCycles.{lead_vertex, lead_forward, starts_there}

@@ -17,8 +17,8 @@ use Rattle.slab_faces.proofs.Next.{level_at_lower}
 use Rattle.slab_faces.proofs.Corners.{IsAt, right_fan, top_place}
 use Rattle.slab_faces.proofs.Round.{left_empty, top_open, bottom_open}
 use Rattle.slab_faces.proofs.RotationLemmas.{earlier_in}
-use Rattle.edges_below.specs.FaceLaws.{cell_over}
-use Rattle.edges_below.specs.Highest.{IsHighestBelow}
+use Rattle.edge_predicates.specs.FaceLaws.{cell_over}
+use Rattle.edge_predicates.specs.Highest.{IsHighestBelow}
 use Rattle.face_roots.specs.CycleLinks.{IsStart, IsBare, IsFirstOut}
 use Rattle.face_roots.proofs.BelowVertices.{corner_face}
 

@@ -10,8 +10,8 @@ use Rattle.slab_laws.specs.Meets.{SameFace}
 use Rattle.slab_laws.specs.Cycles.{left_of_dart}
 use Rattle.slab_laws.specs.Rotation.{earlier}
 use Rattle.slab_laws.specs.Rows.{least_dart_of}
-use Rattle.edges_below.specs.FaceLaws.{cell_over}
-use Rattle.edges_below.specs.Highest.{IsHighestBelow}
+use Rattle.edge_predicates.specs.FaceLaws.{cell_over}
+use Rattle.edge_predicates.specs.Highest.{IsHighestBelow}
 use Rattle.sound_changes.specs.NextLaws.{IsDartOf}
 use Rattle.face_changes.specs.Kinds.{is_outer}
 

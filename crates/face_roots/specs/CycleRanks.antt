@@ -10,8 +10,8 @@ use Rattle.slab_laws.specs.Faces.{face_labels, face_of}
 use Rattle.slab_laws.specs.Rotation.{dart_below}
 use Rattle.slab_laws.specs.Rows.{least_dart_of, lead_list, no_dart}
 use Rattle.slab_laws.specs.Subdivision.{subdivision, rank, first_cell}
-use Rattle.edges_below.specs.FaceLaws.{cell_over}
-use Rattle.edges_below.specs.Highest.{IsHighestBelow}
+use Rattle.edge_predicates.specs.FaceLaws.{cell_over}
+use Rattle.edge_predicates.specs.Highest.{IsHighestBelow}
 use Rattle.sound_changes.specs.NextLaws.{IsDartOf}
 use Rattle.face_changes.specs.Kinds.{is_outer}
 use Rattle.face_roots.specs.declared.ranks.Root.{Root}

@@ -8,8 +8,8 @@ use Rattle.slab_laws.specs.Darts.{IsOut, ahead, back}
 use Rattle.slab_laws.specs.Meets.{SameFace}
 use Rattle.slab_laws.specs.Cycles.{left_of_dart}
 use Rattle.slab_laws.specs.Rotation.{earlier}
-use Rattle.edges_below.specs.FaceLaws.{cell_over}
-use Rattle.edges_below.specs.Highest.{IsHighestBelow}
+use Rattle.edge_predicates.specs.FaceLaws.{cell_over}
+use Rattle.edge_predicates.specs.Highest.{IsHighestBelow}
 
 -- of the edges that start at v, to the right or straight up, e is the last clockwise: the lowest (this project)
 pub record IsLowestFrom (g : Skeleton) (v : Point) (e : Edge) : Type 0 where

@@ -12,8 +12,8 @@ use Rattle.slab_faces.proofs.Corners.{same_after}
 use Rattle.slab_faces.proofs.OverUnder.{under_in, under_out}
 use Rattle.slab_faces.proofs.Points.{before_left, before_lower, before_trans}
 use Rattle.slab_faces.proofs.Walls.{run_positive, side_rises}
-use Rattle.edges_below.specs.Levels.{IsSeen}
-use Rattle.edges_below.proofs.Seen.{reaches, slanted_below}
+use Rattle.edge_predicates.specs.Levels.{IsSeen}
+use Rattle.edge_predicates.proofs.Seen.{reaches, slanted_below}
 use Rattle.locate_walk.specs.Looks.{IsBelowOrNone}
 use Rattle.locate_walk.specs.declared.found.EdgeBelow.{EdgeBelow}
 use Rattle.locate_landmarks.specs.Built.{IsColumnBelow}

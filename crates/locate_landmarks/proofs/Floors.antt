@@ -19,10 +19,10 @@ use Rattle.slab_faces.proofs.Points.{before_weak, before_asym, before_on_wall}
 use Rattle.slab_faces.proofs.Slabs.{IsSlab, place_less}
 use Rattle.slab_faces.proofs.Turns.{le_antisym}
 use Rattle.slab_faces.proofs.Walls.{left_of-asym, lower_than-asym, over-lower}
-use Rattle.edges_below.specs.Above.{is_above, IsBeside}
-use Rattle.edges_below.proofs.FaceBelow.{side_right}
-use Rattle.edges_below.proofs.Seen.{slanted}
-use Rattle.edges_below.proofs.Sides.{above_below}
+use Rattle.edge_predicates.specs.Above.{is_above, IsBeside}
+use Rattle.edge_predicates.proofs.FaceBelow.{side_right}
+use Rattle.edge_predicates.proofs.Seen.{slanted}
+use Rattle.edge_predicates.proofs.SidesKept.{above_below}
 use Rattle.locate_landmarks.specs.Floors.{IsSeenAbove, floor}
 
 module _ (g : Skeleton) (q : Point) (plane : IsPlaneSkeleton g) (T : HasWeight q) where

@@ -7,7 +7,7 @@ use Rattle.plane_graphs.specs.Line.{IsProper}
 use Rattle.slab_laws.specs.Sound.{skeleton_of, edge_in, IsGraphSound}
 use Rattle.slab_laws.specs.SpansDrawn.{edge_of}
 use Rattle.slab_laws.specs.View.{View}
-use Rattle.edges_below.specs.Above.{is_above}
+use Rattle.edge_predicates.specs.Above.{is_above}
 use Rattle.locate_landmarks.specs.Lowest.{IsAbove, IsLowered, lower_edge, floor_in}
 use Rattle.locate_landmarks.specs.declared.above.EdgeAbove.{EdgeAbove}
 use Rattle.locate_landmarks.proofs.Floors.{floor_less, floor_least}

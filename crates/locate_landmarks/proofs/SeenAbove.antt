@@ -20,7 +20,7 @@ use Rattle.counted_looks.specs.declared.boundary_part.BoundaryPart.TheVariants.{
 use Rattle.counted_looks.specs.declared.glance.Looked.{Looked}
 use Rattle.dcel_records.specs.RecordsView.{tables_of}
 use Rattle.dcel_records.specs.declared.spot.Spot.TheVariants.{Edge}
-use Rattle.edges_below.specs.Highest.{IsSpanning}
+use Rattle.edge_predicates.specs.Highest.{IsSpanning}
 use Rattle.locate_walk.specs.Finds.{IsFoundAtDart}
 use Rattle.locate_walk.specs.Passages.{IsBetween}
 use Rattle.locate_walk.specs.Looks.{HasLooked}

@@ -5,7 +5,7 @@ use Rattle.exact_plane.specs.Point.{Point}
 use Rattle.plane_graphs.specs.Graph.{Edge}
 use Rattle.slab_laws.specs.Skeleton.{Skeleton, over}
 use Rattle.slab_laws.specs.Slabs.{slab_left, place}
-use Rattle.edges_below.specs.Highest.{IsSpanning}
+use Rattle.edge_predicates.specs.Highest.{IsSpanning}
 
 -- an edge of the graph that spans q above it (Fogel, Halperin and Wein: vertical ray shooting)
 pub record IsSeenAbove (g : Skeleton) (q : Point) (e : Edge) : Type 0 where

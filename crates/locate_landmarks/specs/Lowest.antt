@@ -7,7 +7,7 @@ use Rattle.slab_laws.specs.Sound.{skeleton_of, edge_in}
 use Rattle.slab_laws.specs.SpansDrawn.{edge_of}
 use Rattle.slab_laws.specs.View.{View, HasDart}
 use Rattle.arr_notes.specs.Curves.{IsForward}
-use Rattle.edges_below.specs.Above.{is_above}
+use Rattle.edge_predicates.specs.Above.{is_above}
 use Rattle.locate_landmarks.specs.Floors.{IsSeenAbove, floor}
 use Rattle.locate_landmarks.specs.declared.above.EdgeAbove.{EdgeAbove}
 

@@ -9,7 +9,7 @@ ghost use Rattle.locate_landmarks.specs.Looks.{IsDrawnLook};
 ghost use Rattle.locate_landmarks.specs.Lowest.{IsAbove, lower_edge};
 
 use counted_looks::{Glance, Glimpse, NameCalls};
-use edges_below::is_above;
+use edge_predicates::is_above;
 use exact_plane::{Point, Span};
 use locate_walk::Passage;
 use slab_laws::DartId;

@@ -13,8 +13,8 @@ use Rattle.slab_laws.specs.Sound.{skeleton_of, edge_in}
 use Rattle.slab_laws.specs.View.{View, Faces, point_in}
 use Rattle.sound_views.proofs.EveryEdge.{by_forward}
 use Rattle.dcel_records.specs.declared.spot.Spot.TheVariants.{Face}
-use Rattle.edges_below.specs.Levels.{IsSeen, level}
-use Rattle.edges_below.proofs.Uprights.{is_inside}
+use Rattle.edge_predicates.specs.Levels.{IsSeen, level}
+use Rattle.edge_predicates.proofs.Uprights.{is_inside}
 use Rattle.face_location.specs.Below.{IsSeenOrNone}
 use Rattle.face_location.specs.Spots.{IsSpotOf}
 use Rattle.walk_laws.specs.Walks.{face_above, height}

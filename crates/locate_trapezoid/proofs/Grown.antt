@@ -8,7 +8,7 @@ use Rattle.slab_laws.specs.declared.names.DartId.{DartId}
 use Rattle.slab_laws.specs.declared.names.VertexId.{VertexId}
 use Rattle.slab_laws.specs.Sound.{edge_in}
 use Rattle.slab_laws.specs.View.{View}
-use Rattle.edges_below.specs.Highest.{IsSpanning}
+use Rattle.edge_predicates.specs.Highest.{IsSpanning}
 use Rattle.locate_trapezoid.specs.declared.node.Slot.{Slot}
 use Rattle.locate_trapezoid.specs.declared.node.Slot.TheVariants.{Child}
 use Rattle.locate_trapezoid.specs.declared.node.Test.{Test}

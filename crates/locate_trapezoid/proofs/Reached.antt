@@ -17,11 +17,11 @@ use Rattle.slab_laws.specs.View.{View, HasVertex, HasDart, point_in}
 use Rattle.slab_faces.proofs.OverUnder.{under_in}
 use Rattle.slab_faces.proofs.Points.{before_irrefl, before_trans, before_after, after_before}
 use Rattle.sound_views.proofs.NamedDarts.{edge_known}
-use Rattle.edges_below.specs.Above.{is_above, IsBeside}
-use Rattle.edges_below.specs.Highest.{IsSpanning}
-use Rattle.edges_below.specs.Levels.{IsSeen, level}
-use Rattle.edges_below.proofs.Levels.{levels_tell_highest}
-use Rattle.edges_below.proofs.Sides.{stays_above, stays_below}
+use Rattle.edge_predicates.specs.Above.{is_above, IsBeside}
+use Rattle.edge_predicates.specs.Highest.{IsSpanning}
+use Rattle.edge_predicates.specs.Levels.{IsSeen, level}
+use Rattle.edge_predicates.proofs.Levels.{levels_tell_highest}
+use Rattle.edge_predicates.proofs.SidesKept.{stays_above, stays_below}
 use Rattle.locate_trapezoid.specs.declared.node.Slot.{Slot}
 use Rattle.locate_trapezoid.specs.declared.node.Slot.TheVariants.{Root, Child}
 use Rattle.locate_trapezoid.specs.declared.node.Test.{Test}

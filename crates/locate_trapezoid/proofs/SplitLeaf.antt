@@ -18,8 +18,8 @@ use Rattle.slab_faces.proofs.Points.{before_left, before_lower, before_asym, bef
 use Rattle.slab_faces.proofs.Walls.{side-lower, side-upper}
 use Rattle.sound_views.proofs.ForwardDarts.{target_has}
 use Rattle.sound_views.proofs.GraphDrawn.{between_forward}
-use Rattle.edges_below.specs.Highest.{IsSpanning}
-use Rattle.edges_below.specs.Levels.{IsSeen, level}
+use Rattle.edge_predicates.specs.Highest.{IsSpanning}
+use Rattle.edge_predicates.specs.Levels.{IsSeen, level}
 use Rattle.locate_trapezoid.specs.declared.node.Slot.{Slot}
 use Rattle.locate_trapezoid.specs.declared.node.Test.{Test}
 use Rattle.locate_trapezoid.specs.declared.node.Test.TheVariants.{Vertex, Edge}

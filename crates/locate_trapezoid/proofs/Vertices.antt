@@ -11,7 +11,7 @@ use Rattle.slab_laws.specs.declared.names.DartId.{DartId}
 use Rattle.slab_laws.specs.declared.names.VertexId.{VertexId}
 use Rattle.slab_laws.specs.Sound.{edge_in}
 use Rattle.slab_laws.specs.View.{View, point_in}
-use Rattle.edges_below.specs.Highest.{IsSpanning}
+use Rattle.edge_predicates.specs.Highest.{IsSpanning}
 use Rattle.locate_trapezoid.specs.declared.graph.Leaf.{Leaf}
 use Rattle.locate_trapezoid.specs.declared.graph.SearchGraph.{SearchGraph}
 use Rattle.locate_trapezoid.specs.declared.node.Node.{Node}

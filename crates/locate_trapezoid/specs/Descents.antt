@@ -7,7 +7,7 @@ use Rattle.slab_laws.specs.declared.names.VertexId.{VertexId}
 use Rattle.slab_laws.specs.Skeleton.{precedes}
 use Rattle.slab_laws.specs.Sound.{edge_in}
 use Rattle.slab_laws.specs.View.{View, point_in}
-use Rattle.edges_below.specs.Above.{is_above}
+use Rattle.edge_predicates.specs.Above.{is_above}
 use Rattle.locate_trapezoid.specs.declared.descent.Descent.{Descent}
 use Rattle.locate_trapezoid.specs.declared.node.Slot.{Slot}
 use Rattle.locate_trapezoid.specs.declared.node.Slot.TheVariants.{Root, Child}

@@ -11,8 +11,8 @@ use Rattle.slab_laws.specs.declared.names.VertexId.{VertexId}
 use Rattle.slab_laws.specs.Skeleton.{side, inside}
 use Rattle.slab_laws.specs.Sound.{skeleton_of, edge_in}
 use Rattle.slab_laws.specs.View.{View, point_in}
-use Rattle.edges_below.specs.Highest.{IsSpanning}
-use Rattle.edges_below.specs.Levels.{IsSeen, level}
+use Rattle.edge_predicates.specs.Highest.{IsSpanning}
+use Rattle.edge_predicates.specs.Levels.{IsSeen, level}
 use Rattle.face_location.specs.Below.{IsSeenOrNone}
 use Rattle.walk_laws.specs.Walks.{height}
 use Rattle.locate_trapezoid.specs.declared.node.Slot.{Slot}

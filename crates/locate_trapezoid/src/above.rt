@@ -3,7 +3,7 @@ ghost use Rattle.slab_laws.specs.Skeleton.{under};
 ghost use Rattle.slab_laws.specs.Sound.{IsGraphSound, edge_in};
 ghost use Rattle.slab_laws.specs.SpansDrawn.{edge_of};
 ghost use Rattle.arr_notes.specs.Curves.{IsForward};
-ghost use Rattle.edges_below.specs.Above.{is_above as lies_above};
+ghost use Rattle.edge_predicates.specs.Above.{is_above as lies_above};
 
 use dcel_records::Records;
 use edge_predicates::{is_over, precedes};

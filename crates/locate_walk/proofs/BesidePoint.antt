@@ -6,7 +6,7 @@ use Rattle.exact_plane.specs.declared.whole_parts.BoundingBox.{BoundingBox}
 use Rattle.exact_plane.specs.declared.whole_parts.WholeParts.{WholeParts}
 use Rattle.slab_laws.specs.declared.names.DartId.{DartId}
 use Rattle.slab_laws.specs.View.{View, HasDart}
-use Rattle.counted_looks.specs.Boxes.{is_beside, is_beside_or_above}
+use Rattle.exact_plane.specs.Boxes.{is_beside, is_beside_or_above}
 use Rattle.counted_looks.specs.CycleLooks.{HasEnds}
 use Rattle.counted_looks.specs.Looks.{IsLookOf, looked_at}
 use Rattle.counted_looks.specs.declared.boundary_part.BoundaryPart.TheVariants.{Dart}

@@ -27,9 +27,9 @@ use Rattle.counted_looks.specs.declared.boundary_part.BoundaryPart.TheVariants.{
 use Rattle.counted_looks.specs.declared.glance.Looked.{Looked}
 use Rattle.dcel_records.specs.RecordsView.{tables_of}
 use Rattle.dcel_records.specs.declared.spot.Spot.TheVariants.{Edge}
-use Rattle.edges_below.specs.Above.{is_above}
-use Rattle.edges_below.specs.Highest.{IsSpanning}
-use Rattle.edges_below.specs.Levels.{IsSeen}
+use Rattle.edge_predicates.specs.Above.{is_above}
+use Rattle.edge_predicates.specs.Highest.{IsSpanning}
+use Rattle.edge_predicates.specs.Levels.{IsSeen}
 use Rattle.face_location.proofs.Passings.{apart_past}
 use Rattle.locate_walk.specs.Finds.{IsFound, IsFoundAtDart}
 use Rattle.locate_walk.specs.Looks.{higher_edge, is_beyond, taken, HasLooked, IsBelowOrNone}

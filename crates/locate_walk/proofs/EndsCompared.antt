@@ -5,15 +5,12 @@ use Rattle.exact_plane.specs.WholeParts.{whole_parts, is_left_or_right_of}
 use Rattle.exact_plane.specs.Point.{Point}
 use Rattle.exact_plane.specs.PointOrder.{point_cmp}
 use Rattle.exact_plane.specs.PointOrderLaws.{point_cmp_total}
-use Rattle.plane_graphs.proofs.Order.{Lt, lt_never, lt_both}
+use Rattle.plane_graphs.proofs.Order.{Lt, lt_never, lt_both, after_out}
 use Rattle.locate_walk.specs.Passages.{IsApart}
 use Rattle.exact_plane.proofs.WholeOrders.{beside_order}
 
 pub before_out : (p q : Point) → point_cmp p q ≡ Less → Lt p q
 before_out p q e = record { is = e }
-
-pub after_out : (p q : Point) → point_cmp p q ≡ Greater → Lt q p
-after_out p q e = record { is = point_cmp_total.antisymm q p ∙ ap ordering_reverse e }
 
 -- two points of which one comes before the other are two
 pub differ : {p q : Point} → Lt p q → p ≡ q → ⊥

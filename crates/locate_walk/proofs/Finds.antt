@@ -24,7 +24,7 @@ use Rattle.sound_views.proofs.GraphDrawn.{between_forward}
 use Rattle.counted_looks.specs.Looks.{IsLookOf}
 use Rattle.counted_looks.specs.declared.glance.Looked.{Looked}
 use Rattle.dcel_records.specs.declared.spot.Spot.TheVariants.{Edge}
-use Rattle.edges_below.specs.Highest.{IsSpanning}
+use Rattle.edge_predicates.specs.Highest.{IsSpanning}
 use Rattle.face_location.proofs.Passings.{spans_ahead, spans_behind, spans_out, apart_past, minus_past, zero_met, plus_below}
 use Rattle.face_location.specs.Passing.{IsBelow}
 use Rattle.face_location.specs.Spots.{IsSpotOf}

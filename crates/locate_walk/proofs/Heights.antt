@@ -16,8 +16,8 @@ use Rattle.slab_laws.specs.Skeleton.{HasWeight, left_of, lower_than, side, over,
 use Rattle.slab_faces.proofs.OverUnder.{negative_not_under, positive_not_over, under_out}
 use Rattle.slab_faces.proofs.Points.{before_lower, before_on_wall, before_trans, before_weak, not_before_left}
 use Rattle.slab_faces.proofs.Walls.{lower_than-asym, lower_than-before}
-use Rattle.edges_below.specs.Above.{is_above}
-use Rattle.edges_below.specs.Highest.{IsSpanning}
+use Rattle.edge_predicates.specs.Above.{is_above}
+use Rattle.edge_predicates.specs.Highest.{IsSpanning}
 
 -- ---- an edge from (px, py) to (rx, ry), and a point between their abscissas: its side is a mean of its heights over both ends
 module _ (px py pw rx ry rw x y w : ℤ) where

@@ -23,7 +23,7 @@ use Rattle.dcel_records.specs.RecordsView.{tables_of}
 use Rattle.dcel_records.specs.Spots.{IsVertexAt}
 use Rattle.dcel_records.specs.declared.spot.Spot.{Spot}
 use Rattle.dcel_records.specs.declared.spot.Spot.TheVariants.{Face}
-use Rattle.edges_below.specs.Levels.{IsSeen, level}
+use Rattle.edge_predicates.specs.Levels.{IsSeen, level}
 use Rattle.face_location.specs.Below.{IsSeenOrNone}
 use Rattle.face_location.specs.Spots.{IsSpotOf}
 use Rattle.walk_laws.specs.Walks.{face_above, height, IsDartPassed, IsBoundaryPassed, size_ahead}

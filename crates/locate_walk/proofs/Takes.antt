@@ -17,9 +17,9 @@ use Rattle.counted_looks.specs.declared.boundary_part.BoundaryPart.{BoundaryPart
 use Rattle.counted_looks.specs.declared.boundary_part.BoundaryPart.TheVariants.{Dart, Isolated}
 use Rattle.dcel_records.specs.RecordsView.{tables_of}
 use Rattle.dcel_records.specs.declared.spot.Spot.{Spot}
-use Rattle.edges_below.specs.Above.{is_above}
-use Rattle.edges_below.specs.Levels.{level}
-use Rattle.edges_below.proofs.Levels.{levels_tell_highest}
+use Rattle.edge_predicates.specs.Above.{is_above}
+use Rattle.edge_predicates.specs.Levels.{level}
+use Rattle.edge_predicates.proofs.Levels.{levels_tell_highest}
 use Rattle.walk_laws.specs.Walks.{height}
 use Rattle.locate_walk.specs.Finds.{IsFound}
 use Rattle.locate_walk.specs.Looks.{dart_of, is_best, higher_edge, IsBelowOrNone, IsRaised, is_settled, taken, HasLooked, IsPartClear, MayLook, HasSeen}

@@ -14,7 +14,7 @@ use Rattle.counted_looks.specs.declared.boundary_part.BoundaryPart.{BoundaryPart
 use Rattle.counted_looks.specs.declared.boundary_part.BoundaryPart.TheVariants.{Dart, Isolated}
 use Rattle.dcel_records.specs.RecordsView.{tables_of}
 use Rattle.dcel_records.specs.SoundMaps.{IsSoundMap}
-use Rattle.edges_below.specs.Above.{is_above}
+use Rattle.edge_predicates.specs.Above.{is_above}
 use Rattle.face_location.specs.Below.{IsSeenDart}
 use Rattle.face_location.specs.Spots.{IsSpotOf}
 use Rattle.walk_laws.specs.Walks.{height, IsDartPassed}

@@ -10,7 +10,7 @@ ghost use Rattle.locate_walk.specs.Looks.{higher_edge, is_best, is_beyond, is_se
 use crate::found::{EdgeBelow, Found, find};
 use counted_looks::{BoundaryPart, Glance, Glimpse, Looker};
 use dcel_records::Spot;
-use edges_below::is_above;
+use edge_predicates::is_above;
 use exact_plane::{BoundingBox, Point, WholeParts};
 use slab_laws::{CycleId, DartId, FaceId};
 use std::sync::ledger::Ledger;

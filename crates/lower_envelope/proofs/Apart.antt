@@ -20,6 +20,7 @@ use Rattle.slab_laws.specs.Skeleton.{HasWeight, left_of, run, side, in_range, ga
 use Rattle.slab_laws.specs.SpansDrawn.{edge_of}
 use Rattle.slab_faces.proofs.Order.{below_from, gap-swap}
 use Rattle.slab_faces.proofs.Walls.{left_of-irrefl, left_of-asym, run_positive}
+use Rattle.exact_plane.proofs.WholeOrders.{less_ratio}
 
 nothing : (a b u v : ℤ) → a ≡ pos 0 → b ≡ pos 0 → a *ℤ u +ℤ b *ℤ v ≡ pos 0
 nothing a b u v e f = ap₂ (λ x y. x *ℤ u +ℤ y *ℤ v) e f ∙ ring (u ∷ v ∷ []) (search sides depth 40 fits 20000) tt
@@ -68,22 +69,12 @@ module _ (px py pw rx ry rw qx qy qw sx sy sw x y w : ℤ) where
 abbrev rise : Point → Point → ℤ
 rise p q = q.y *ℤ p.w -ℤ p.y *ℤ q.w
 
--- a lesser whole part is that of a lesser ratio
-less_by_parts : (y w z v : ℤ) → pos 0 <ℤ w → pos 0 <ℤ v → whole_part y w <ℤ whole_part z v → (y *ℤ v) <ℤ (z *ℤ w)
-less_by_parts y w z v W V l =
-    let m = whole_part y w in
-    let n = whole_part z v in
-    let a = rest_part y w in
-    let b = rest_part z v in
-    let h : ((m *ℤ w +ℤ a) *ℤ v) <ℤ ((n *ℤ v +ℤ b) *ℤ w) = less_out _ _ (sym (less_by_whole m n a w b v (is_rest y w W) (is_rest z v V) (less_in _ _ l))) in
-    subst (λ t. (y *ℤ v) <ℤ (t *ℤ w)) (parts_are z v) (subst (λ t. (t *ℤ v) <ℤ ((n *ℤ v +ℤ b) *ℤ w)) (parts_are y w) h)
-
 risen : (p q : Point) → HasWeight p → HasWeight q → (whole_parts p).y <ℤ (whole_parts q).y → pos 0 <ℤ rise p q
-risen p q P Q l = let k = less_by_parts p.y p.w q.y q.w P Q l in omega (arith, ints)
+risen p q P Q l = let k = less_ratio p.y p.w q.y q.w P Q l in omega (arith, ints)
 
 pub left_by_whole : (p q : Point) → HasWeight p → HasWeight q → (whole_parts p).x <ℤ (whole_parts q).x → left_of p q ≡ true
 unfolding left_of
-left_by_whole p q P Q l = lt_yes (p.x *ℤ q.w) (q.x *ℤ p.w) (less_by_parts p.x p.w q.x q.w P Q l)
+left_by_whole p q P Q l = lt_yes (p.x *ℤ q.w) (q.x *ℤ p.w) (less_ratio p.x p.w q.x q.w P Q l)
 
 module _ (f e : Edge) where
   -- both ends of e are above both ends of f, and neither is vertical

@@ -26,7 +26,7 @@ use Rattle.slab_faces.proofs.EveryFace.{none_counted, first_width}
 use Rattle.slab_faces.proofs.Next.{corner, walk, enters, kind_few}
 use Rattle.slab_faces.proofs.NextLemmas.{dart_in, dart_out}
 use Rattle.slab_faces.proofs.RotationLemmas.{earlier_in, round_at}
-use Rattle.edges_below.proofs.FaceBelow.{bottom_all}
+use Rattle.edge_predicates.proofs.FaceBelow.{bottom_all}
 use Rattle.envelope_laws.specs.declared.which.Which.{Which}
 use Rattle.envelope_laws.specs.declared.which.Which.TheVariants.{Lower, Upper}
 use Rattle.envelope_laws.specs.Envelopes.{vertex_beyond, edge_beyond, is_extreme}

@@ -1,6 +1,5 @@
 -- The sources of darts on the boundaries of the unbounded face, in the order of their points, each once.
-use Rattle.std.proofs.Common.{◌≡◌, eqb, refl, sym, ap, ap₂, subst, ◌∙◌, List, [], ◌∷◌, map, Bool, Ordering, Less, Equal, Greater}
-use Rattle.std.specs.Prelude.{◌&&◌}
+use Rattle.std.proofs.Common.{◌≡◌, ◌&&◌, eqb, refl, sym, ap, subst, ◌∙◌, List, [], ◌∷◌, map, Bool, Ordering, Less, Equal, Greater}
 use Rattle.std.specs.List.Retain.{IsFiltered, DiffersFromLast}
 use Rattle.std.specs.List.Sorted.{IsPermutation, IsSorted}
 use Rattle.std.specs.Cmp.{IsTotalOrder, then_total, on_total, int_cmp_total}
@@ -8,9 +7,9 @@ use Rattle.std.specs.Ordering.{eq_by_cmp, int_cmp, int_eq, ordering_then, nat_cm
 use Rattle.std.proofs.lemmas.Cmp.{tied_itself}
 use Rattle.integers.proofs.Classes.{then_equal}
 use Rattle.integers.proofs.Compare.{equal_out, less_out}
-use Rattle.integers.proofs.Tests.{nat_exact, number_ties, both_equal}
+use Rattle.integers.proofs.Tests.{both_equal}
 use Rattle.exact_plane.specs.PointOrder.{point_cmp}
-use Rattle.exact_plane.specs.PointOrderLaws.{point_cmp_ties, same_point as point_cmp_exact}
+use Rattle.exact_plane.specs.PointOrderLaws.{same_point as point_cmp_exact}
 use Rattle.exact_plane.proofs.WholeOrders.{before_by_whole}
 use Rattle.plane_graphs.specs.Ascending.{IsAscending, Member, ascending}
 use Rattle.plane_graphs.proofs.Arranged.{arranged}
@@ -19,22 +18,12 @@ use Rattle.plane_graphs.proofs.Lists.{in_ascending, of_ascending, in_map, map_ma
 use Rattle.slab_laws.specs.declared.names.DartId.{DartId}
 use Rattle.slab_laws.specs.Skeleton.{HasWeight}
 use Rattle.slab_laws.specs.Sound.{IsGraphSound}
-use Rattle.slab_laws.specs.View.{View, Faces, HasDart, vertex_id, point_in, source_in}
+use Rattle.slab_laws.specs.View.{View, Faces, HasDart, point_in, source_in}
 use Rattle.record_orders.specs.declared.vertices.VertexKey.{VertexKey}
-use Rattle.record_orders.proofs.VertexKeys.{key_cmp, key_cmp_total}
+use Rattle.record_orders.proofs.VertexKeys.{key_cmp, key_cmp_total, key_exact, key_ties}
 use Rattle.lower_envelope.specs.Edges.{AreOuterDarts}
 use Rattle.lower_envelope.specs.declared.boundary.EndKey.{EndKey}
 use Rattle.lower_envelope.specs.Corners.{AreOuterEnds, source_key, end_key}
-
-key_ties : (x y : VertexKey) → (int_eq x.point.x y.point.x && (int_eq x.point.y y.point.y && int_eq x.point.w y.point.w)) && eqb x.name.0 y.name.0 ≡ eq_by_cmp key_cmp x y
-key_ties x y = ap₂ ◌&&◌ (point_cmp_ties x.point y.point) (number_ties x.name.0 y.name.0) ∙ both_equal (point_cmp x.point y.point) (nat_cmp x.name.0 y.name.0)
-
-key_exact : (k m : VertexKey) → key_cmp k m ≡ Equal → k ≡ m
-key_exact k m e =
-    let t = then_equal (point_cmp k.point m.point) (nat_cmp k.name.0 m.name.0) e in
-    let p = point_cmp_exact k.point m.point t.0 in
-    let n = ap vertex_id (nat_exact k.name.0 m.name.0 t.1) in
-    λ i. record { point = p i; name = n i }
 
 -- with the whole parts before them
 abbrev pub end_cmp : EndKey → EndKey → Ordering

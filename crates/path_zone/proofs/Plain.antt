@@ -25,15 +25,7 @@ use Rattle.path_zone.specs.PathZone.{IsCrossing}
 use Rattle.path_zone.specs.Zoned.{has_common_end, IsZonedSide}
 use Rattle.path_zone.proofs.Along.{ends_meet}
 use Rattle.path_zone.proofs.Crossings.{on_span}
-
-one_point : (p q : Point) → point_eq p q ≡ true → p ≡ q
-one_point p q e =
-    let a = both (int_eq p.x q.x) _ e in
-    let b = both (int_eq p.y q.y) (int_eq p.w q.w) a.1 in
-    let x = eq_out p.x q.x a.0 in
-    let y = eq_out p.y q.y b.0 in
-    let w = eq_out p.w q.w b.1 in
-    λ i. record { x = x i; y = y i; w = w i }
+use Rattle.exact_plane.specs.PointOrderLaws.{one_point}
 
 -- an end of both
 record IsCorner (s t : Segment) (p : Point) : Type 0 where

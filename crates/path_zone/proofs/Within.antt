@@ -1,7 +1,7 @@
 -- A point of a side that isn't one of the zone's vertices lies within an open part, whose spot the zone tells.
 use Rattle.std.proofs.Common.{◌≡◌, ℕ, zero, suc, ◌+◌, ◌-◌, ◌<◌, ◌≤◌, List, [], ◌∷◌, length, get_or, true, is_lt, sym, ap, ◌∙◌, subst, add-one, arith, ⊎_elim, Ordering, Less, Equal, Greater}
 use Rattle.std.specs.List.Sorted.{IsSortedBy, IsNonDecreasingBy, IsPartitionPoint}
-use Rattle.std.specs.Ordering.{ordering_reverse, ordering_index}
+use Rattle.std.specs.Ordering.{ordering_index}
 use Rattle.std.proofs.lemmas.Bool.{cases_lt}
 use Rattle.std.proofs.lemmas.Cmp.{tied_itself}
 use Rattle.std.proofs.lemmas.List.{get_or-map, length-map}
@@ -16,7 +16,7 @@ use Rattle.plane_graphs.specs.Line.{precedes}
 use Rattle.plane_graphs.proofs.Ascending.{from_member}
 use Rattle.plane_graphs.proofs.Lists.{in_map, of_map}
 use Rattle.plane_graphs.proofs.Marks.{le_cases}
-use Rattle.plane_graphs.proofs.Order.{Lt, lt_in, lt_out, lt_both}
+use Rattle.plane_graphs.proofs.Order.{Lt, lt_in, lt_out, lt_both, after_out}
 use Rattle.plane_graphs.proofs.Sorting.{member_at, rises}
 use Rattle.slab_laws.specs.View.{View, Faces}
 use Rattle.dcel_records.specs.declared.spot.Spot.{Spot}
@@ -37,9 +37,6 @@ module _ (v : View) (f : Faces) (s : Segment) where
   part_at (p ∷ q ∷ ps) [] k a h = absurd a
   part_at (p ∷ q ∷ ps) (x ∷ parts) zero a h = (omega arith, λ d e. a.0)
   part_at (p ∷ q ∷ ps) (x ∷ parts) (suc k) a h = let r = part_at (q ∷ ps) parts k a.1 (omega (arith, h)) in (omega (arith, r.0), r.1)
-
-after_out : (p q : Point) → point_cmp p q ≡ Greater → Lt q p
-after_out p q e = record { is = point_cmp_total.antisymm q p ∙ ap ordering_reverse e }
 
 module _ (v : View) (f : Faces) (s : Segment) (z : ZonePlan) (x : Point) (h : IsOnZoned v f s z x) where
   abbrev ms : List Meeting

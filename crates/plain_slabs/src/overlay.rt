@@ -111,7 +111,7 @@ pub fn subdivide_both(alloc: Global, red: &Present, blue: &Present) -> Result<Bo
     let plain = subdivide_united(alloc, red, blue)?;
     match parts_of(alloc, &plain, red, blue) {
         Ok((red, blue, red_pieces, blue_pieces)) => {
-            Ok(Both::of(plain.rows, red, blue, red_pieces, blue_pieces))
+            Ok(Both::of(alloc, plain.rows, red, blue, red_pieces, blue_pieces))
         }
         Err(no_memory) => {
             // By a call, which is proved once for the type; what a scope drops at its end is proved there anew.

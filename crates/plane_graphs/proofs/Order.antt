@@ -1,11 +1,12 @@
 -- The order of points and of marks.
-use Rattle.std.proofs.Common.{◌≡◌, ℕ, true, is_lt, is_eq, refl, sym, ap, ◌∙◌, Ordering, Less, Equal, Greater, nat_cmp, arith}
+use Rattle.std.proofs.Common.{◌≡◌, ℕ, true, not, is_lt, is_eq, refl, sym, ap, ◌∙◌, Ordering, Less, Equal, Greater, nat_cmp, arith}
 use Rattle.std.specs.Cmp.{IsTotalOrder}
 use Rattle.std.proofs.lemmas.Cmp.{then_total, on_total, nat_cmp_total, tied_itself}
-use Rattle.std.specs.Ordering.{ordering_reverse, ordering_then}
+use Rattle.std.specs.Ordering.{is_le, ordering_reverse, ordering_then}
 use Rattle.exact_plane.specs.Point.{Point}
 use Rattle.exact_plane.specs.PointOrder.{point_cmp}
 use Rattle.exact_plane.specs.PointOrderLaws.{point_cmp_total, same_point as point_cmp_exact}
+use Rattle.exact_plane.specs.Span.{IsAtMost}
 use Rattle.plane_graphs.specs.Line.{precedes, same_point}
 use Rattle.plane_graphs.specs.Graph.{Mark, mark_cmp}
 use Rattle.integers.proofs.Tests.{is_less, then_rest, is_equal}
@@ -40,6 +41,17 @@ lt_out p q h = record { is = is_less (point_cmp p q) h }
 
 pub lt_in : {p q : Point} → Lt p q → precedes p q ≡ true
 lt_in {p} {q} h = ap is_lt h.is
+
+pub after_out : (p q : Point) → point_cmp p q ≡ Greater → Lt q p
+after_out p q e = record { is = point_cmp_total.antisymm q p ∙ ap ordering_reverse e }
+
+not_less : (o : Ordering) → not (is_lt (ordering_reverse o)) ≡ true → is_le o ≡ true
+not_less Less h = refl
+not_less Equal h = refl
+not_less Greater h = cc
+
+pub at_most_out : (p q : Point) → not (precedes q p) ≡ true → IsAtMost p q
+at_most_out p q h = not_less (point_cmp p q) (ap (λ o. not (is_lt o)) (sym (point_cmp_total.antisymm q p)) ∙ h)
 
 pub same_out : (p q : Point) → same_point p q ≡ true → p ≡ q
 same_out p q h = point_cmp_exact p q (is_equal (point_cmp p q) h)

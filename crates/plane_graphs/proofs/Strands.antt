@@ -32,7 +32,7 @@ strand_ends : (k : Piece) → ends (strand_piece k) ≡ ends k
 unfolding ends
 strand_ends k = refl
 
-strand_common : (k m : Piece) → common_points (strand_piece k) (strand_piece m) ≡ common_points k m
+pub strand_common : (k m : Piece) → common_points (strand_piece k) (strand_piece m) ≡ common_points k m
 unfolding common_points on along
 strand_common k m = refl
 

@@ -1,11 +1,12 @@
 -- Sorted vertex keys are the vertices in point order.
-use Rattle.std.proofs.Common.{◌≡◌, ℕ, ◌<◌, List, [], ◌∷◌, map, Ordering, sym, ap, subst, false}
+use Rattle.std.proofs.Common.{◌≡◌, ℕ, ◌<◌, List, [], ◌∷◌, map, Ordering, Equal, eqb, ◌&&◌, sym, ap, ap₂, ◌∙◌, subst, false}
 use Rattle.std.specs.List.{AllByRecursion, IsDistinct}
 use Rattle.std.specs.List.Sorted.{IsPermutation, IsSorted}
 use Rattle.std.specs.Ordering.{ordering_then, nat_cmp, eq_by_cmp}
 use Rattle.std.specs.Cmp.{IsTotalOrder, then_total, on_total, nat_cmp_total}
+use Rattle.exact_plane.specs.Point.{point_eq}
 use Rattle.exact_plane.specs.PointOrder.{point_cmp}
-use Rattle.exact_plane.specs.PointOrderLaws.{point_cmp_total}
+use Rattle.exact_plane.specs.PointOrderLaws.{point_cmp_total, point_cmp_ties, same_point}
 use Rattle.plane_graphs.specs.Ascending.{IsAscending, Member}
 use Rattle.plane_graphs.proofs.Ascending.{IsAscending-ascending}
 use Rattle.plane_graphs.proofs.Lists.{in_map, of_map}
@@ -20,7 +21,8 @@ use Rattle.sound_views.proofs.NamesOrdered.{vertex_ordered, ordered_vertex}
 use Rattle.record_orders.specs.declared.vertices.VertexKey.{VertexKey}
 use Rattle.record_orders.specs.Keys.{vertex_key, vertex_keys}
 use Rattle.record_orders.proofs.Sorting.{untied, sorted_is}
-use Rattle.integers.proofs.Tests.{then_rest, not_tied}
+use Rattle.integers.proofs.Classes.{then_equal}
+use Rattle.integers.proofs.Tests.{then_rest, not_tied, nat_exact, number_ties, both_equal}
 
 -- by point, then by name
 abbrev pub key_cmp : VertexKey → VertexKey → Ordering
@@ -28,6 +30,17 @@ key_cmp k m = ordering_then (point_cmp k.point m.point) (nat_cmp k.name.0 m.name
 
 pub key_cmp_total : IsTotalOrder key_cmp
 key_cmp_total = then_total (on_total (λ k. k.point) point_cmp_total) (on_total (λ k. k.name.0) nat_cmp_total)
+
+-- keys that no test tells apart are one
+pub key_ties : (x y : VertexKey) → point_eq x.point y.point && eqb x.name.0 y.name.0 ≡ eq_by_cmp key_cmp x y
+key_ties x y = ap₂ ◌&&◌ (point_cmp_ties x.point y.point) (number_ties x.name.0 y.name.0) ∙ both_equal (point_cmp x.point y.point) (nat_cmp x.name.0 y.name.0)
+
+pub key_exact : (x y : VertexKey) → key_cmp x y ≡ Equal → x ≡ y
+key_exact x y e =
+    let both = then_equal (point_cmp x.point y.point) (nat_cmp x.name.0 y.name.0) e in
+    let at = same_point x.point y.point both.0 in
+    let named = nat_exact x.name.0 y.name.0 both.1 in
+    λ i. record { point = at i; name = record { 0 = named i } }
 
 module _ (v : View) where
   abbrev all_names : List VertexId

@@ -29,28 +29,12 @@ use Rattle.set_laws.specs.EvenOdd.{odd_above}
 use Rattle.set_laws.specs.EvenOddLaws.{IsOfFaces, SetsAreOfFaces}
 use Rattle.set_laws.specs.PolygonLaws.{IsTurnedByPieces, IsSetOfFaces, InsideIsOfFaces}
 use Rattle.set_laws.proofs.PieceEnds.{ends_of_both}
+use Rattle.slab_faces.proofs.CyclesOfFaces.{across}
+use Rattle.slab_faces.proofs.OddSums.{odd_alike, alike_even}
 
 -- ---- odd and even
 pub is_odd : ℕ → Bool
 is_odd n = n % 2 == 1
-
-small : (r : ℕ) → r < 2 → r ≡ cond (r == 1) 1 0
-small zero h = refl
-small (suc zero) h = refl
-small (suc (suc r)) h = absurd (omega arith)
-
-pub rest_is : (n : ℕ) → n % 2 ≡ cond (n % 2 == 1) 1 0
-rest_is n = small (n % 2) (omega arith)
-
-pub odd_same : (a b : ℕ) → Even (a + b) → (a % 2 == 1) ≡ (b % 2 == 1)
-odd_same a b h = let e : a % 2 ≡ b % 2 = omega arith in ap (λ n. n == 1) e
-
-pub same_odd : (a b : ℕ) → (a % 2 == 1) ≡ (b % 2 == 1) → Even (a + b)
-same_odd a b h =
-    let x = rest_is a in
-    let y = rest_is b in
-    let z : cond {A = ℕ} (a % 2 == 1) 1 0 ≡ cond (b % 2 == 1) 1 0 = ap (λ t. cond {A = ℕ} t 1 0) h in
-    omega arith
 
 pub odd_is : (n : ℕ) (b : Bool) → Even (n + cond b 1 0) → (n % 2 == 1) ≡ b
 odd_is n true h = let e : n % 2 ≡ 1 = omega arith in ap (λ r. r == 1) e
@@ -67,17 +51,6 @@ top_weight g m i plane =
     none false b n h = refl
 
 -- ---- across an edge
-across : (g : Skeleton) (m : Edge → ℕ) (e : Edge) → IsPlaneSkeleton g → IsEvenAtVertices g m → Contains g.edges e → (b : Bool) → left_of e.low e.high ≡ b → Even (weight_above g m (cell_by g e b true).slab (cell_by g e b true).place + weight_above g m (cell_by g e b false).slab (cell_by g e b false).place + m e)
-across g m e plane even E true h =
-    let wall = on_own_wall g e.low plane (plane.lower_in e E) in
-    let se : spans g (slab_right g e.low) e ≡ true = spans_right g e.low e plane wall E ∙ and_from _ _ (ap not (left_of-irrefl e.low)) h in
-    let a = weight_step g m (slab_right g e.low) (right_inside g e.low) e plane (is_slab_right g e.low plane wall) E se in
-    omega arith
-across g m e plane even E false h =
-    let f : left_of e.high e.low ≡ false = plane.forward e E in
-    let w : on_wall e.low e.high ≡ true = rw (h, f) refl in
-    parity_upright g m e plane even E w
-
 -- ---- the set of weights that are even round each vertex
 module _ (g : Skeleton) (m : Edge → ℕ) (plane : IsPlaneSkeleton g) (even : IsEvenAtVertices g m) where
   abbrev up : Edge → SlabCell
@@ -99,10 +72,10 @@ module _ (g : Skeleton) (m : Edge → ℕ) (plane : IsPlaneSkeleton g) (even : I
 
   pub of_faces : IsOfFaces g m
   of_faces = record {
-    one_face = λ c d h. odd_is_above c ∙ odd_same _ _ (parity_face g m c d plane even h) ∙ sym (odd_is_above d);
+    one_face = λ c d h. odd_is_above c ∙ odd_alike _ _ (parity_face g m c d plane even h) ∙ sym (odd_is_above d);
     across = λ e E. (
-      (λ k. let a = by_edge e E in odd_is_above (up e) ∙ odd_same _ _ (omega arith) ∙ sym (odd_is_above (down e))),
-      (λ k. let a = by_edge e E in let b = same_odd _ _ (sym (odd_is_above (up e)) ∙ k ∙ odd_is_above (down e)) in omega arith),
+      (λ k. let a = by_edge e E in odd_is_above (up e) ∙ odd_alike _ _ (omega arith) ∙ sym (odd_is_above (down e))),
+      (λ k. let a = by_edge e E in let b = alike_even _ _ (sym (odd_is_above (up e)) ∙ k ∙ odd_is_above (down e)) in omega arith),
     );
     outside = odd_is_above (top_cell g 0) ∙ none;
   }

@@ -28,10 +28,10 @@ use Rattle.slab_faces.proofs.Searches.{found, unfound}
 use Rattle.slab_faces.proofs.Parity.{same_point_is}
 use Rattle.set_laws.specs.PolygonSets.{is_end, ends_at, pieces_along, is_odd_end, IsClosedLayer, odd_end}
 use Rattle.set_laws.specs.PolygonLaws.{IsOddEnd, OddEndIs, IsFoundByEdges, OddEndByEdges}
-use Rattle.set_laws.proofs.Insides.{rest_is, odd_same}
 use Rattle.set_laws.proofs.PieceEnds.{own_layer, ends_by_edges}
 use Rattle.overlay_laws.proofs.Both.{both_fit}
 use Rattle.overlay_laws.proofs.Parts.{IsLayerOf, red_layer, blue_layer, vertex_kept}
+use Rattle.slab_faces.proofs.OddSums.{rest_is, odd_alike}
 
 over : (xs : List Point) (x : Point) → Member x xs → other.Member xs x
 over [] x h = absurd h
@@ -138,7 +138,7 @@ module _ (p q : Point → Bool) (xs ys : List Point) (ax : IsAscending point_cmp
 module _ (layer whole : Present) (fl : IsFit layer) (fw : IsFit whole) (part : IsLayerOf layer whole) where
   pub odd_is_same : (v : Point) → Member v (vertices whole) → is_odd_end layer v ≡ (sum_by (at_end (pieces_along layer) v) (plane_of whole).edges % 2 == 1)
   unfolding is_odd_end graph
-  odd_is_same v V = sym (odd_same (sum_by (at_end (pieces_along layer) v) (plane_of whole).edges) (ends_at layer v) (ends_by_edges layer whole fw part v (from_member (vertices whole) v V)))
+  odd_is_same v V = sym (odd_alike (sum_by (at_end (pieces_along layer) v) (plane_of whole).edges) (ends_at layer v) (ends_by_edges layer whole fw part v (from_member (vertices whole) v V)))
 
   pub end_is_vertex : (v : Point) → is_odd_end layer v ≡ true → Member v (vertices whole)
   unfolding is_odd_end ends_at

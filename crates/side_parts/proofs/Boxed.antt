@@ -1,28 +1,18 @@
 -- A point beyond one side of the box of a side isn't on the side.
-use Rattle.std.proofs.Common.{◌≡◌, true, false, not, ◌&&◌, refl, ap, sym, ◌∙◌, subst, Ordering, Less, Equal, Greater, is_lt}
-use Rattle.std.specs.Ordering.{is_le, ordering_reverse}
+use Rattle.std.proofs.Common.{◌≡◌, true, false, not, ◌&&◌, subst}
 use Rattle.integers.proofs.Decisions.{both, eq_out}
 use Rattle.integers.proofs.Tests.{not_true}
 use Rattle.exact_plane.specs.Point.{Point, IsPoint}
-use Rattle.exact_plane.specs.PointOrder.{point_cmp}
-use Rattle.exact_plane.specs.PointOrderLaws.{point_cmp_total}
 use Rattle.exact_plane.specs.Segment.{Segment, line_of_segment}
-use Rattle.exact_plane.specs.Span.{span_of_segment, IsAtMost, IsSpan}
+use Rattle.exact_plane.specs.Span.{span_of_segment, IsSpan}
 use Rattle.exact_plane.specs.declared.whole_parts.BoundingBox.{BoundingBox}
 use Rattle.exact_plane.specs.WholeParts.{bounding_box, excludes, whole_parts}
 use Rattle.exact_plane.proofs.Meetings.{runs}
 use Rattle.exact_plane.proofs.Orders.{at_most_itself}
 use Rattle.exact_plane.proofs.WholeOrders.{IsAlong, boxed}
 use Rattle.plane_graphs.specs.Line.{is_on, precedes}
+use Rattle.plane_graphs.proofs.Order.{at_most_out}
 use Rattle.side_parts.specs.SideParts.{holds}
-
-not_less : (o : Ordering) → not (is_lt (ordering_reverse o)) ≡ true → is_le o ≡ true
-not_less Less h = refl
-not_less Equal h = refl
-not_less Greater h = cc
-
-at_most_out : (p q : Point) → not (precedes q p) ≡ true → IsAtMost p q
-at_most_out p q h = not_less (point_cmp p q) (ap (λ o. not (is_lt o)) (sym (point_cmp_total.antisymm q p)) ∙ h)
 
 module _ (s : Segment) (w : IsSpan (span_of_segment s)) (p : Point) (P : IsPoint p) where
   along : holds s p ≡ true → IsAlong (line_of_segment s) s.lower s.upper p

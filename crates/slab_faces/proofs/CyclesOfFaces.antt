@@ -23,7 +23,7 @@ pub next_starts_there : NextStartsThere
 next_starts_there g d plane E = (next_from g d plane E).at
 
 -- the weights on both sides of an edge differ by the edge's own, or are even with it
-across : (g : Skeleton) (m : Edge → ℕ) (e : Edge) → IsPlaneSkeleton g → IsEvenAtVertices g m → Contains g.edges e → (b : Bool) → left_of e.low e.high ≡ b → Even (weight_above g m (cell_by g e b true).slab (cell_by g e b true).place + weight_above g m (cell_by g e b false).slab (cell_by g e b false).place + m e)
+pub across : (g : Skeleton) (m : Edge → ℕ) (e : Edge) → IsPlaneSkeleton g → IsEvenAtVertices g m → Contains g.edges e → (b : Bool) → left_of e.low e.high ≡ b → Even (weight_above g m (cell_by g e b true).slab (cell_by g e b true).place + weight_above g m (cell_by g e b false).slab (cell_by g e b false).place + m e)
 across g m e plane even E true h =
     let wall = on_own_wall g e.low plane (plane.lower_in e E) in
     let se : spans g (slab_right g e.low) e ≡ true = spans_right g e.low e plane wall E ∙ and_from _ _ (ap not (left_of-irrefl e.low)) h in

@@ -22,6 +22,7 @@ pub mod Corners
 pub mod AddedUpright
 pub mod Shift
 pub mod Round
+pub mod OddSums
 pub mod Outside
 pub mod Next
 pub mod Member

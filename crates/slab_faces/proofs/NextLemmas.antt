@@ -172,7 +172,7 @@ next_keeps_face g d plane E =
     let k = turn_keeps g (target d) d.edge (next (darts g) d).edge (not d.forward) (next (darts g) d).forward plane (record { in' = E; at = refl }) (next_from g d plane E) (turn_of g (target d) plane V (twin d) (next (darts g) d) (next_follows g d plane E)) in
     subst (λ b. SameFace g (cell_of g d.edge b) (cell_of g (next (darts g) d).edge (next (darts g) d).forward)) (not_not d.forward) k
 
-next_is : (g : Skeleton) (d : Dart) → next (darts g) d ≡ after (twin d) (ring (darts g) (target d))
+pub next_is : (g : Skeleton) (d : Dart) → next (darts g) d ≡ after (twin d) (ring (darts g) (target d))
 unfolding next
 next_is g d = refl
 

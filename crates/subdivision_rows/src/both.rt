@@ -1,19 +1,25 @@
-ghost use Rattle.std.specs.Prelude.{◌≡◌, ◌<◌, length, slice_index_or};
+ghost use Rattle.std.specs.Prelude.{◌≡◌, ◌<◌, length, slice_index_or, IfOk};
 ghost use Rattle.plane_graphs.specs.Graph.{edges};
 ghost use Rattle.slab_laws.specs.View.{HasDart};
+ghost use Rattle.arr_text.specs.Reading.{overlay_text_in};
 ghost use Rattle.subdivision_rows.specs.Listed.{view_of};
-ghost use Rattle.subdivision_rows.specs.OverlayInMemory.{AreRowsOf, edge_place_at};
+ghost use Rattle.subdivision_rows.specs.OverlayInMemory.{AreRowsOf, edge_place_at, graph_of, faces_in, red_of, blue_of};
 
 use crate::both_records::edge_of;
 use crate::layer_table::LayerTable;
 use crate::rows::Rows;
+use arr_text::overlay_text;
+use no_memory::NoMemory;
 use slab_laws::DartId;
+use std::alloc::Global;
 use std::marker::Model;
 
-/// The overlay of two layers, red and blue, in ascending lists: the subdivision of the plane by both, and of each layer the
-/// curves along each edge, how many of its pieces hold each edge, and the rank of the layer's face that holds each face.
+/// The overlay of two layers, red and blue, in ascending lists: the subdivision of the plane by the segments and points of both,
+/// whose edges know their curves of each layer, and how many of its pieces hold them, and whose faces know the faces of each layer
+/// that hold them (CGAL manual, `overlay`).
 #[derive(Drop)]
 pub struct Both {
+    alloc: Global,
     pub(crate) rows: Rows,
     pub(crate) red: LayerTable,
     pub(crate) blue: LayerTable,
@@ -46,6 +52,7 @@ impl Both {
     /// The overlay of the subdivision by both layers and what this tells of each: its table, and of each edge how many of its pieces
     /// hold it.
     pub fn of(
+        alloc: Global,
         rows: Rows,
         red: LayerTable,
         blue: LayerTable,
@@ -59,12 +66,31 @@ impl Both {
         ensures { result ≡ record { drawing = rows; red = red; blue = blue; red_pieces = red_pieces.items; blue_pieces = blue_pieces.items } }
     {
         Both {
+            alloc,
             rows,
             red,
             blue,
             red_pieces,
             blue_pieces,
         }
+    }
+
+    /// The allocator of what is made of the overlay.
+    pub fn allocator(&self) -> Global {
+        self.alloc
+    }
+
+    /// The text of the overlay.
+    ///
+    /// # Errors
+    ///
+    /// There was no memory for it.
+    pub fn text(&self) -> Result<Vec<u8>, NoMemory>
+        ensures { IfOk result (λ bytes. bytes.items
+            ≡ overlay_text_in (graph_of self.now) (faces_in self.now) (red_of self.now) (blue_of self.now)) }
+    {
+        self.rows.laws();
+        overlay_text(self.alloc, self)
     }
 
     /// The subdivision by both layers.
@@ -90,7 +116,7 @@ impl Both {
         &self.blue_pieces
     }
 
-    /// How many red pieces hold the dart's edge.
+    /// How many red pieces hold the dart's edge. A curve several of whose sides run along it counts several times.
     pub fn red_pieces(&self, d: DartId) -> usize
         requires { HasDart (view_of self.now.drawing) d }
         ensures { result ≡ slice_index_or self.now.red_pieces (edge_place_at self.now.drawing d.0) 0 }

@@ -24,10 +24,10 @@ use Rattle.face_changes.proofs.FacesByPairs.{told_by_pairs}
 use Rattle.face_changes.proofs.LinkedCycles.{dart_there}
 use Rattle.dcel_records.specs.declared.spot.Spot.TheVariants.{Face}
 use Rattle.dcel_records.specs.Spots.{IsInFace}
-use Rattle.edges_below.specs.FaceLaws.{cell_over}
-use Rattle.edges_below.specs.Levels.{IsSeen, level}
-use Rattle.edges_below.proofs.FaceBelow.{face_is_over_highest}
-use Rattle.edges_below.proofs.Levels.{levels_tell_highest}
+use Rattle.edge_predicates.specs.FaceLaws.{cell_over}
+use Rattle.edge_predicates.specs.Levels.{IsSeen, level}
+use Rattle.edge_predicates.proofs.FaceBelow.{face_is_over_highest}
+use Rattle.edge_predicates.proofs.Levels.{levels_tell_highest}
 use Rattle.face_location.specs.Below.{IsSeenOrNone, edge_along}
 use Rattle.face_location.specs.Spots.{IsSpotOf}
 use Rattle.face_location.proofs.PointFaces.{apart}

@@ -18,7 +18,7 @@ use Rattle.slab_laws.specs.Sound.{skeleton_of, edge_in, dart_in}
 use Rattle.slab_laws.specs.View.{View, Faces, DartRecord, HasDart, HasFace, dart_id, face_id, cycle_in, face_in}
 use Rattle.sound_views.proofs.NamedDarts.{edge_known}
 use Rattle.sound_views.proofs.NameTables.{has_name, name_has}
-use Rattle.edges_below.specs.Levels.{level}
+use Rattle.edge_predicates.specs.Levels.{level}
 use Rattle.face_changes.proofs.FacesByPairs.{told_by_pairs}
 use Rattle.face_location.specs.Below.{IsSeenDart, IsSeenOrNone}
 use Rattle.walk_laws.specs.Laws.{FacesAreVisitedOnce}

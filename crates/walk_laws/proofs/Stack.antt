@@ -20,12 +20,12 @@ use Rattle.slab_faces.proofs.Turns.{face_trans, face_sym, on_own_wall}
 use Rattle.slab_faces.proofs.Outside.{to_first}
 use Rattle.slab_faces.proofs.Nudge.{right_inside, is_slab_right}
 use Rattle.slab_faces.proofs.EveryFace.{none_counted, passing}
-use Rattle.edges_below.specs.FaceLaws.{cell_over}
+use Rattle.edge_predicates.specs.FaceLaws.{cell_over}
 use Rattle.slab_faces.proofs.Points.{before_left, before_lower, before_weak}
 use Rattle.slab_faces.proofs.OverUnder.{under_out, under_not_over}
-use Rattle.edges_below.proofs.Seen.{reaches}
-use Rattle.edges_below.proofs.FaceBelow.{side_right, IsStart, begins, bottom_all}
-use Rattle.edges_below.specs.Levels.{IsSeen, level, IsSeenAtMost, levels_to}
+use Rattle.edge_predicates.proofs.Seen.{reaches}
+use Rattle.edge_predicates.proofs.FaceBelow.{side_right, IsStart, begins, bottom_all}
+use Rattle.edge_predicates.specs.Levels.{IsSeen, level, IsSeenAtMost, levels_to}
 use Rattle.walk_laws.proofs.Fans.{in_lowers, next_lower}
 
 -- of the edges that q sees and that border the face over o, none is above o

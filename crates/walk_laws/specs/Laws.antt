@@ -10,7 +10,7 @@ use Rattle.slab_laws.specs.Sound.{skeleton_of, edge_in}
 use Rattle.slab_laws.specs.View.{View, Faces, HasDart}
 use Rattle.dcel_records.specs.declared.spot.Spot.TheVariants.{Face}
 use Rattle.dcel_records.specs.Spots.{IsInFace}
-use Rattle.edges_below.specs.Levels.{IsSeen, level}
+use Rattle.edge_predicates.specs.Levels.{IsSeen, level}
 use Rattle.face_location.specs.Below.{IsSeenOrNone}
 use Rattle.face_location.specs.Spots.{IsSpotOf}
 use Rattle.walk_laws.specs.Walks.{face_above, height, IsBoundaryPassed, size_ahead}

@@ -10,7 +10,7 @@ use Rattle.slab_laws.specs.Skeleton.{under, inside, precedes}
 use Rattle.slab_laws.specs.Sound.{skeleton_of, dart_in, edge_in}
 use Rattle.slab_laws.specs.View.{View, Faces, HasDart, HasBareFace, dart_id, face_id, point_in, source_in, target_in, cycle_in, face_in, bare_face_in}
 use Rattle.face_changes.specs.FacesByPairs.{first_or}
-use Rattle.edges_below.specs.Levels.{IsSeen, level, levels_to}
+use Rattle.edge_predicates.specs.Levels.{IsSeen, level, levels_to}
 use Rattle.face_location.specs.Below.{edge_along}
 
 -- the face over that edge; at first the unbounded one, whose name is the first (CGAL manual, walk along a line)

@@ -2,7 +2,7 @@ use Rattle.std.proofs.Common.{ap, sym, subst, ◌∙◌}
 use Rattle.slab_laws.specs.SpansDrawn.{edge_of}
 use Rattle.slab_laws.specs.Sound.{edge_in}
 use Rattle.slab_laws.specs.View.{HasVertex, point_in}
-use Rattle.edges_below.proofs.AboveSteps.{is_later, is_earlier, is_fan}
+use Rattle.edge_predicates.proofs.AboveSteps.{is_later, is_earlier, is_fan}
 use Rattle.locate_trapezoid.proofs.SplitLeaf.{low_is}
 use Rattle.locate_trapezoid.proofs.above.is_above_edge.Goals as goal
 

@@ -3,8 +3,9 @@ use Rattle.std.specs.declared.cmp.Ordering.{Ordering}
 use Rattle.exact_plane.specs.Point.{Point}
 use Rattle.exact_plane.specs.PointOrder.{point_cmp}
 use Rattle.exact_plane.specs.PointOrderLaws.{same_point}
-use Rattle.locate_walk.proofs.EndsCompared.{before_out, after_out, both_before, both_after}
+use Rattle.locate_walk.proofs.EndsCompared.{before_out, both_before, both_after}
 use Rattle.locate_walk.proofs.passage.compared.Goals as goal
+use Rattle.plane_graphs.proofs.Order.{after_out}
 
 -- what the comparison of an end that was read told
 told : (p : Point) {end read : Point} {o r : Ordering} → read ≡ end → r ≡ point_cmp read p → r ≡ o → point_cmp end p ≡ o

@@ -3,7 +3,7 @@ use Rattle.exact_plane.specs.WholeParts.{whole_parts}
 use Rattle.exact_plane.specs.declared.whole_parts.WholeParts.{WholeParts}
 use Rattle.slab_laws.specs.declared.names.DartId.{DartId}
 use Rattle.slab_laws.specs.View.{View, HasDart}
-use Rattle.counted_looks.specs.Boxes.{is_beside}
+use Rattle.exact_plane.specs.Boxes.{is_beside}
 use Rattle.counted_looks.specs.declared.boundary_part.BoundaryPart.TheVariants.{Dart}
 use Rattle.dcel_records.specs.RecordsView.{graph_of, lists_of}
 use Rattle.locate_walk.specs.Looks.{IsBelowOrNone, HasSeen}

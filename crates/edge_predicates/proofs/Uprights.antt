@@ -14,10 +14,10 @@ use Rattle.slab_faces.proofs.OverUnder.{not_under, over_out, under_in, under_out
 use Rattle.slab_faces.proofs.Walls.{left_of-before, left_of-after, lower_than-before, run_positive, side-lower, side_rises, side_keeps, over-upper}
 use Rattle.slab_faces.proofs.Cells.{not_right_trans}
 use Rattle.slab_faces.proofs.Along.{upright_left, upright_right}
-use Rattle.edges_below.specs.Above.{is_above, IsBeside}
+use Rattle.edge_predicates.specs.Above.{is_above, IsBeside}
 use Rattle.slab_faces.proofs.Points.{before_left, before_lower, before_weak, before_on_wall, not_before_left, not_before_lower}
 use Rattle.slab_faces.proofs.Upright.{upright_on}
-use Rattle.edges_below.proofs.Seen.{slanted}
+use Rattle.edge_predicates.proofs.Seen.{slanted}
 
 -- ---- what is inside an edge
 -- a point on the line of an edge, between its ends, is inside it

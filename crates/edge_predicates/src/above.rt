@@ -1,8 +1,9 @@
 ghost use Rattle.std.specs.Prelude.{◌≡◌};
 ghost use Rattle.slab_laws.specs.SpansDrawn.{edge_of};
-ghost use Rattle.edges_below.specs.Above.{is_above as lies_above};
+ghost use Rattle.edge_predicates.specs.Above.{is_above as lies_above};
 
-use edge_predicates::{is_over, is_under, precedes};
+use crate::edges::{is_over, is_under};
+use crate::points::precedes;
 use exact_plane::Span;
 
 /// Which of two edges is above the other, where both go on beyond the later of their lower ends.

@@ -5,8 +5,8 @@ use Rattle.exact_plane.specs.Point.{Point}
 use Rattle.plane_graphs.specs.Graph.{Edge}
 use Rattle.slab_laws.specs.Skeleton.{Skeleton, HasWeight, under, IsPlaneSkeleton}
 use Rattle.slab_laws.specs.Slabs.{slab_right, place}
-use Rattle.edges_below.specs.Above.{is_above}
-use Rattle.edges_below.specs.Highest.{IsSpanning, IsHighestBelow}
+use Rattle.edge_predicates.specs.Above.{is_above}
+use Rattle.edge_predicates.specs.Highest.{IsSpanning, IsHighestBelow}
 
 -- an edge of the graph that spans q below it (Fogel, Halperin and Wein: vertical ray shooting)
 pub record IsSeen (g : Skeleton) (q : Point) (e : Edge) : Type 0 where

@@ -9,7 +9,7 @@ use Rattle.slab_laws.specs.Skeleton.{HasWeight, left_of, side, under}
 use Rattle.slab_faces.proofs.OverUnder.{under_not_over, under_out}
 use Rattle.slab_faces.proofs.Walls.{left_of-before, over-upper}
 use Rattle.slab_faces.proofs.Cells.{not_right_trans}
-use Rattle.edges_below.specs.Highest.{IsSpanning}
+use Rattle.edge_predicates.specs.Highest.{IsSpanning}
 use Rattle.slab_faces.proofs.Points.{before_weak, before_on_wall}
 use Rattle.slab_faces.proofs.Upright.{upright_on}
 

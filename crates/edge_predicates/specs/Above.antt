@@ -4,7 +4,7 @@ use Rattle.std.specs.List.{Contains}
 use Rattle.exact_plane.specs.Point.{Point}
 use Rattle.plane_graphs.specs.Graph.{Edge}
 use Rattle.slab_laws.specs.Skeleton.{Skeleton, HasWeight, side, over, under, below, precedes, IsPlaneSkeleton}
-use Rattle.edges_below.specs.Highest.{IsSpanning}
+use Rattle.edge_predicates.specs.Highest.{IsSpanning}
 
 -- by the later of their lower ends; from one lower end by the first's upper end (Fogel, Halperin and Wein: status order of the sweep)
 unfoldable pub is_above : Edge → Edge → Bool

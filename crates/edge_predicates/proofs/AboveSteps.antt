@@ -3,8 +3,8 @@ use Rattle.std.proofs.Common.{◌≡◌, Bool, true, false, sym, ap, ◌∙◌}
 use Rattle.exact_plane.specs.Point.{Point}
 use Rattle.plane_graphs.specs.Graph.{Edge}
 use Rattle.slab_laws.specs.Skeleton.{over, under, precedes}
-use Rattle.edges_below.specs.Above.{is_above}
-use Rattle.edges_below.proofs.Uprights.{above_later, above_earlier, above_fan}
+use Rattle.edge_predicates.specs.Above.{is_above}
+use Rattle.edge_predicates.proofs.Uprights.{above_later, above_earlier, above_fan}
 
 pub is_later : (e f : Edge) (lo st : Point) (b r : Bool) → lo ≡ e.low → st ≡ f.low → b ≡ precedes st lo → b ≡ true → r ≡ under f lo → r ≡ is_above e f
 is_later e f lo st b r x y z t u = u ∙ ap (under f) x ∙ sym (above_later e f ((λ i. precedes (sym y i) (sym x i)) ∙ sym z ∙ t))

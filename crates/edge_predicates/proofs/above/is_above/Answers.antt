@@ -1,6 +1,6 @@
 use Rattle.slab_laws.specs.SpansDrawn.{edge_of}
-use Rattle.edges_below.proofs.AboveSteps.{is_later, is_earlier, is_fan}
-use Rattle.edges_below.proofs.order.is_above.Goals as goal
+use Rattle.edge_predicates.proofs.AboveSteps.{is_later, is_earlier, is_fan}
+use Rattle.edge_predicates.proofs.above.is_above.Goals as goal
 
 pub returns-then-precedes : goal.returns-then-precedes
 returns-then-precedes c = is_later (edge_of c.args.edge.now) (edge_of c.args.other.now) _ _ _ _ c.lower-lower.ensures.value c.lower-start.ensures.value c.precedes.ensures c.if-precedes.true c.is_under.ensures

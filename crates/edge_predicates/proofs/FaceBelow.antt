@@ -29,10 +29,10 @@ use Rattle.slab_faces.proofs.Searches.{best_of}
 use Rattle.slab_faces.proofs.EveryFace.{none_counted, passing}
 use Rattle.slab_faces.proofs.InnerPoints.{no_sign}
 use Rattle.slab_faces.proofs.PointLemmas.{points_have_one_face}
-use Rattle.edges_below.specs.Highest.{IsSpanning, none_below, highest}
-use Rattle.edges_below.specs.FaceLaws.{FaceIsOverHighest}
+use Rattle.edge_predicates.specs.Highest.{IsSpanning, none_below, highest}
+use Rattle.edge_predicates.specs.FaceLaws.{FaceIsOverHighest}
 use Rattle.slab_faces.proofs.Points.{before_left, before_lower, before_weak}
-use Rattle.edges_below.proofs.Seen.{reaches}
+use Rattle.edge_predicates.proofs.Seen.{reaches}
 
 -- ---- the edges in the slab on the right of q, whether q is on a wall or not
 pub side_right : (g : Skeleton) (q : Point) → IsPlaneSkeleton g → HasWeight q → IsSideOf g q (slab_right g q) (λ e. reaches_right e q)

@@ -14,14 +14,14 @@ use Rattle.slab_faces.proofs.OverUnder.{not_over, not_under, over_in, over_out, 
 use Rattle.slab_faces.proofs.Walls.{left_of-irrefl, left_of-asym, left_of-before, left_of-after, lower_than-before, lower_than-after, run_positive, side-lower, side-upper, side_rises, over-upper}
 use Rattle.slab_faces.proofs.Cells.{not_right_trans}
 use Rattle.slab_faces.proofs.Order.{Passes, below_from, below_asym, gap_positive, gap-on_e, gap-on_f, ranged, higher}
-use Rattle.edges_below.specs.Highest.{IsSpanning}
-use Rattle.edges_below.specs.Above.{is_above, IsBeside, EdgesKeepSides}
+use Rattle.edge_predicates.specs.Highest.{IsSpanning}
+use Rattle.edge_predicates.specs.Above.{is_above, IsBeside, EdgesKeepSides}
 use Rattle.slab_faces.proofs.Points.{before_left, before_weak, before_on_wall, not_before_left, not_before_lower, before_asym, after_before, before_after}
-use Rattle.edges_below.proofs.Seen.{slanted_below}
-use Rattle.edges_below.proofs.Uprights.{f_long, above_later, above_earlier, above_fan, never_inside, upright_above, upright_not_above}
+use Rattle.edge_predicates.proofs.Seen.{slanted_below}
+use Rattle.edge_predicates.proofs.Uprights.{f_long, above_later, above_earlier, above_fan, never_inside, upright_above, upright_not_above}
 
 -- from one lower end, each is as much on the left of the other's upper end as that one is on its right
-turned : (e f : Edge) → f.low ≡ e.low → side e f.high ≡ pos 0 -ℤ side f e.high
+pub turned : (e f : Edge) → f.low ≡ e.low → side e f.high ≡ pos 0 -ℤ side f e.high
 unfolding side
 turned e f h = by e f.high f.low h
   where

@@ -14,13 +14,13 @@ use Rattle.slab_faces.proofs.Nudge.{right_inside, is_slab_right}
 use Rattle.slab_faces.proofs.Order.{gap-swap}
 use Rattle.slab_faces.proofs.Slabs.{IsSlab, through, by_gap, below_at, place_less}
 use Rattle.slab_faces.proofs.Turns.{on_own_wall}
-use Rattle.edges_below.specs.Above.{IsBeside}
-use Rattle.edges_below.specs.Highest.{IsHighestBelow, none_below, highest}
-use Rattle.edges_below.specs.Levels.{IsSeen, level, IsSeenAtMost, levels_to, LevelsTellHighest}
-use Rattle.edges_below.proofs.FaceBelow.{side_right, begins}
+use Rattle.edge_predicates.specs.Above.{IsBeside}
+use Rattle.edge_predicates.specs.Highest.{IsHighestBelow, none_below, highest}
+use Rattle.edge_predicates.specs.Levels.{IsSeen, level, IsSeenAtMost, levels_to, LevelsTellHighest}
+use Rattle.edge_predicates.proofs.FaceBelow.{side_right, begins}
 use Rattle.slab_faces.proofs.Points.{before_weak, before_asym}
-use Rattle.edges_below.proofs.Seen.{reaches}
-use Rattle.edges_below.proofs.Sides.{stays_below, stacked}
+use Rattle.edge_predicates.proofs.Seen.{reaches}
+use Rattle.edge_predicates.proofs.SidesKept.{stays_below, stacked}
 
 module _ (g : Skeleton) (q : Point) (plane : IsPlaneSkeleton g) (T : HasWeight q) where
   -- what is seen is in the slab on the right of q

@@ -11,7 +11,7 @@ use Rattle.slab_laws.specs.Darts.{ahead}
 use Rattle.slab_laws.specs.Cycles.{left_of_dart}
 use Rattle.slab_laws.specs.Subdivision.{first_cell}
 use Rattle.slab_faces.specs.PointLaws.{IsApart}
-use Rattle.edges_below.specs.Highest.{IsHighestBelow}
+use Rattle.edge_predicates.specs.Highest.{IsHighestBelow}
 
 -- a cell of the face over the edge, or of the unbounded face (this project)
 abbrev pub cell_over : Skeleton → Option Edge → SlabCell

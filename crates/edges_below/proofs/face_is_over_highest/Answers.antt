@@ -1,5 +1,0 @@
-use Rattle.edges_below.proofs.FaceBelow.{face_is_over_highest}
-use Rattle.edges_below.proofs.face_is_over_highest.Goals as goal
-
-pub returns : goal.returns
-returns c = face_is_over_highest

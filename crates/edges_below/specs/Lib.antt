@@ -1,4 +1,0 @@
-pub mod Highest
-pub mod Above
-pub mod FaceLaws
-pub mod Levels
