@@ -1,8 +1,10 @@
 pub mod AtNode
+pub mod Cancelled
 pub mod Covered
 pub mod Listed
 pub mod Moved
 pub mod Pruned
+pub mod Replaced
 pub mod Same
 pub mod Seen
 pub mod Taken

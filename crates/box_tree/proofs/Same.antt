@@ -33,7 +33,7 @@ entry_from a b p =
     let whole : ◌≡◌ {A = Entry} (record { name = a.name; bounds = a.bounds }) b = rw (p.0, p.1) refl in
     whole
 
-same_entry : (a b : Entry) → Decides (is_same a b) (a ≡ b)
+pub same_entry : (a b : Entry) → Decides (is_same a b) (a ≡ b)
 same_entry a b =
     Decides-like (is_same a b) (entry_from a b) (λ e. (ap (λ x. x.name) e, ap (λ x. x.bounds) e))
     (Decides-and _ _ (Decides-eqb a.name b.name) (same_box a.bounds b.bounds))

@@ -30,6 +30,10 @@ AreKnown known area es = All (λ e. is_met area e ≡ true → known e) es
 abbrev pub AllWithin : BoundingBox → List Entry → Type 0
 AllWithin cover es = All (λ e. IsWithin e.bounds cover) es
 
+-- no entry's box goes below the ordinate
+abbrev pub AllAbove : ℤ → List Entry → Type 0
+AllAbove y es = All (λ e. y ≤ℤ e.bounds.least.y) es
+
 abbrev pub is_empty_list : List Entry → Bool
 is_empty_list [] = true
 is_empty_list (e ∷ es) = false
@@ -54,3 +58,8 @@ IsPopped (first ∷ rest) now (Some e) = (e ≡ first) × IsPermutation rest now
 abbrev pub IsRemoved : Entry → List Entry → List Entry → Bool → Type 0
 IsRemoved e before now true = IsPermutation before (e ∷ now)
 IsRemoved e before now false = (now ≡ before) × (Contains before e → ⊥)
+
+-- the second entry stands for the first, once, or the first was not there
+abbrev pub IsReplaced : Entry → Entry → List Entry → List Entry → Bool → Type 0
+IsReplaced old new before now true = IsPermutation (new ∷ before) (old ∷ now)
+IsReplaced old new before now false = (now ≡ before) × (Contains before old → ⊥)

@@ -1,9 +1,9 @@
-ghost use Rattle.std.specs.Prelude.{◌≡◌, ◌+◌, ◌≤◌, ◌<◌, ◌≤ℤ◌, [], ◌∷◌, ◌++◌, length, vec_len, vec_capacity, IsOk, OnOk};
+ghost use Rattle.std.specs.Prelude.{◌≡◌, ◌+◌, ◌≤◌, ◌<◌, ◌≤ℤ◌, [], ◌∷◌, ◌++◌, negsuc, length, vec_len, vec_capacity, IsOk, OnOk};
 ghost use Rattle.std.specs.List.Sorted.{IsPermutation};
 ghost use Rattle.exact_plane.specs.Boxes.{ray_below};
-ghost use Rattle.box_tree.specs.Entries.{names_meeting, AreKnown, AreSeen, IsRemoved};
+ghost use Rattle.box_tree.specs.Entries.{names_meeting, AllAbove, AreKnown, AreSeen, IsRemoved, IsReplaced};
 
-use crate::deepest::{note_all, show_all, take_out};
+use crate::deepest::{laws, note_all, show_all, take_out};
 use crate::entry::Entry;
 use crate::tree::{Node, Tree};
 use crate::visitor::Visitor;
@@ -50,6 +50,14 @@ impl BoxTree {
         }
     }
 
+    /// What is true of all entries: their numbers are of 32 bits, so that no box goes below the least of these.
+    pub fn laws(&self)
+        ensures { AllAbove (negsuc 2147483647) self.now.entries }
+    {
+        laws(&self.deepest);
+        self.root.laws();
+    }
+
     /// Takes memory for `count` entries more, in all with that which there is, and none where there is enough. An error changes no entry, and
     /// takes no memory away.
     pub fn reserve(&mut self, alloc: Global, count: usize) -> Result<(), NoMemory>
@@ -93,6 +101,21 @@ impl BoxTree {
         take_out(&mut self.deepest, entry)
     }
 
+    /// Another entry stands for an entry, once, and it says whether that was there. It takes no memory, and nothing of what was reserved.
+    pub fn replace(&mut self, old: &Entry, new: Entry) -> bool
+        ensures entries { IsReplaced old.now new self.old.entries self.new.entries result }
+        ensures room { self.new.room ≡ self.old.room }
+    {
+        if self.root.replace(old, new, 0) {
+            return true;
+        }
+        if !take_out(&mut self.deepest, old) {
+            return false;
+        }
+        self.deepest.push_reserved(new);
+        true
+    }
+
     /// Takes all entries out.
     pub fn clear(&mut self)
         ensures entries { self.new.entries ≡ [] }
@@ -104,7 +127,7 @@ impl BoxTree {
 
     /// Adds the names of all entries whose box meets `area`, each entry's once, in some order. Boxes that touch meet. It takes no memory:
     /// `found` has room for all entries (de Berg and others: windowing query).
-    pub fn find(&self, area: &BoundingBox, found: &mut Vec<u32>)
+    pub fn find(&self, area: &BoundingBox, found: &mut Vec<usize>)
         requires { vec_len found.old + length self.now.entries ≤ vec_capacity found.old }
         ensures names { found.new.items ≡ found.old.items ++ names_meeting area.now self.now.entries }
         ensures capacity { vec_capacity found.new ≡ vec_capacity found.old }
@@ -115,7 +138,7 @@ impl BoxTree {
 
     /// The same for the ray from a place downwards: the entries whose box reaches the place's abscissa, and isn't wholly above the place
     /// (de Berg and others: stabbing query).
-    pub fn find_below(&self, place: WholeParts, found: &mut Vec<u32>)
+    pub fn find_below(&self, place: WholeParts, found: &mut Vec<usize>)
         requires { vec_len found.old + length self.now.entries ≤ vec_capacity found.old }
         ensures names { found.new.items ≡ found.old.items ++ names_meeting (ray_below place) self.now.entries }
         ensures capacity { vec_capacity found.new ≡ vec_capacity found.old }

@@ -1,6 +1,6 @@
 // Entries in a list, for which the tree has no place above its deepest level.
-ghost use Rattle.std.specs.Prelude.{◌≡◌, ◌+◌, ◌≤◌, ◌<◌, ◌≤ℤ◌, ◌++◌, vec_len, vec_capacity, length};
-ghost use Rattle.box_tree.specs.Entries.{names_meeting, AreKnown, AreSeen, IsRemoved};
+ghost use Rattle.std.specs.Prelude.{◌≡◌, true, false, ◌+◌, ◌≤◌, ◌<◌, ◌≤ℤ◌, ◌++◌, negsuc, vec_len, vec_capacity, length};
+ghost use Rattle.box_tree.specs.Entries.{names_meeting, AllAbove, AreKnown, AreSeen, IsRemoved};
 
 use crate::entry::Entry;
 use crate::single::{note, show};
@@ -10,7 +10,8 @@ use exact_plane::BoundingBox;
 // Takes the entry out, and says whether it was there.
 pub fn take_out(entries: &mut Vec<Entry>, entry: &Entry) -> bool
     ensures entries { IsRemoved entry.now entries.old.items entries.new.items result }
-    ensures len { vec_len entries.new ≤ vec_len entries.old }
+    ensures len { result ≡ true → vec_len entries.old ≡ vec_len entries.new + 1 }
+    ensures len_other { result ≡ false → vec_len entries.new ≡ vec_len entries.old }
     ensures capacity { vec_capacity entries.new ≡ vec_capacity entries.old }
 {
     let mut place = 0;
@@ -24,8 +25,24 @@ pub fn take_out(entries: &mut Vec<Entry>, entry: &Entry) -> bool
     false
 }
 
+// The least ordinate of its box.
+fn lowest(entry: &Entry) -> i32
+    ensures { result ≡ entry.now.bounds.least.y }
+{
+    entry.bounds.least.y
+}
+
+// No box goes below the least ordinate of 32 bits.
+pub fn laws(entries: &[Entry])
+    ensures { AllAbove (negsuc 2147483647) entries.now }
+{
+    for entry in entries {
+        lowest(entry);
+    }
+}
+
 // Adds the names of all entries whose box meets `area`, each once.
-pub fn note_all(entries: &[Entry], area: &BoundingBox, found: &mut Vec<u32>)
+pub fn note_all(entries: &[Entry], area: &BoundingBox, found: &mut Vec<usize>)
     requires { vec_len found.old + length entries.now ≤ vec_capacity found.old }
     ensures items { found.new.items ≡ found.old.items ++ names_meeting area.now entries.now }
     ensures len { vec_len found.new ≤ vec_len found.old + length entries.now }

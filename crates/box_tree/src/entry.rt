@@ -6,7 +6,7 @@ use exact_plane::BoundingBox;
 /// A name with its box, in whole plane units.
 #[derive(Clone, Copy)]
 pub struct Entry {
-    pub name: u32,
+    pub name: usize,
     pub bounds: BoundingBox,
 }
 

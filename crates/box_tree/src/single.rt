@@ -7,7 +7,7 @@ use crate::visitor::Visitor;
 use exact_plane::BoundingBox;
 
 // Adds the entry's name, if its box meets the area.
-pub fn note(entry: &Entry, area: &BoundingBox, found: &mut Vec<u32>)
+pub fn note(entry: &Entry, area: &BoundingBox, found: &mut Vec<usize>)
     requires { vec_len found.old < vec_capacity found.old }
     ensures items { found.new.items ≡ found.old.items ++ names_meeting area.now (entry.now ∷ []) }
     ensures len { vec_len found.new ≤ vec_len found.old + 1 }

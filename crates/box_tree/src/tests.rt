@@ -20,7 +20,7 @@ const FEW: [Sides; 5] = [
 #[derive(Drop)]
 struct Tally {
     shown: u32,
-    sum: u32,
+    sum: usize,
     floor: i32,
     rises: bool,
 }
@@ -63,7 +63,7 @@ fn box_of(sides: Sides) -> BoundingBox {
 // Their names are 1, 2, 4 and so on, so that a sum tells which they are.
 fn tree_of(alloc: Global, boxes: &[Sides]) -> Result<BoxTree, Fail> {
     let mut tree = BoxTree::new(alloc);
-    let mut name = 1u32;
+    let mut name = 1usize;
     for sides in boxes {
         tree.reserve(alloc, 1)?;
         tree.insert(Entry {
@@ -75,7 +75,7 @@ fn tree_of(alloc: Global, boxes: &[Sides]) -> Result<BoxTree, Fail> {
     Ok(tree)
 }
 
-fn shown_in(tree: &BoxTree, area: Sides) -> (u32, u32) {
+fn shown_in(tree: &BoxTree, area: Sides) -> (u32, usize) {
     let mut tally = Tally {
         shown: 0,
         sum: 0,

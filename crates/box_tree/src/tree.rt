@@ -1,10 +1,10 @@
 // A tree of entries, each node with a box that covers the boxes of all entries in it. The larger entries stand higher, so
 // that deep boxes are small. Only that a node's box covers its entries is relied on: a question passes over a node whose
 // box it does not meet. Where an entry goes down tells of time alone, and a removal that does not find it there looks at the other side.
-ghost use Rattle.std.specs.Prelude.{◌≡◌, ◌+◌, ◌≤◌, ◌<◌, ◌≤ℤ◌, true, false, [], ◌∷◌, ◌++◌, vec_len, vec_capacity, length};
+ghost use Rattle.std.specs.Prelude.{◌≡◌, ◌+◌, ◌≤◌, ◌<◌, ◌≤ℤ◌, true, false, [], ◌∷◌, ◌++◌, negsuc, vec_len, vec_capacity, length};
 ghost use Rattle.std.specs.List.Sorted.{IsPermutation};
 ghost use Rattle.exact_plane.specs.Boxes.{IsWithin};
-ghost use Rattle.box_tree.specs.Entries.{names_meeting, is_met, AllWithin, AreKnown, AreSeen, IsPlaced, IsPopped, IsRemoved, IsEither, is_empty_list};
+ghost use Rattle.box_tree.specs.Entries.{names_meeting, is_met, AllAbove, AllWithin, AreKnown, AreSeen, IsPlaced, IsPopped, IsRemoved, IsReplaced, IsEither, is_empty_list};
 
 use crate::entry::Entry;
 use crate::single::{is_below_floor, note, show};
@@ -106,6 +106,15 @@ impl Tree {
         match &self.link {
             Link::Empty => i32::MIN,
             Link::Node(node) => node.cover.greatest.y,
+        }
+    }
+
+    // No box goes below the least ordinate of 32 bits.
+    pub fn laws(&self)
+        ensures { AllAbove (negsuc 2147483647) self.now.entries }
+    {
+        if let Link::Node(node) = &self.link {
+            let _lowest = node.cover.least.y;
         }
     }
 
@@ -219,8 +228,51 @@ impl Tree {
         true
     }
 
+    // Another entry stands at the node of an entry, and it says whether that was there. Where the new one would have gone down to tells of
+    // time alone: what is looked for on one side is looked for on the other one too.
+    pub fn replace(&mut self, old: &Entry, new: Entry, level: u32) -> bool
+        ensures entries { IsReplaced old.now new self.old.entries self.new.entries result }
+        ensures height { self.new.height ≡ self.old.height }
+    {
+        match &mut self.link {
+            Link::Empty => return false,
+            Link::Node(node) => {
+                let node: &mut Node = node;
+                if !node.entry.is(old) {
+                    if node.cover.is_exceeded(&old.bounds) {
+                        return false;
+                    }
+                    let deeper = level.wrapping_add(1);
+                    if old.is_high(level) {
+                        if node.high.replace(old, new, deeper) {
+                            node.cover = cover_of(&node.entry, &node.low, &node.high);
+                            return true;
+                        }
+                        if node.low.replace(old, new, deeper) {
+                            node.cover = cover_of(&node.entry, &node.low, &node.high);
+                            return true;
+                        }
+                        return false;
+                    }
+                    if node.low.replace(old, new, deeper) {
+                        node.cover = cover_of(&node.entry, &node.low, &node.high);
+                        return true;
+                    }
+                    if node.high.replace(old, new, deeper) {
+                        node.cover = cover_of(&node.entry, &node.low, &node.high);
+                        return true;
+                    }
+                    return false;
+                }
+                node.entry = new;
+                node.cover = cover_of(&new, &node.low, &node.high);
+                return true;
+            }
+        }
+    }
+
     // Adds the names of all entries whose box meets `area`, each once.
-    pub fn find(&self, area: &BoundingBox, found: &mut Vec<u32>)
+    pub fn find(&self, area: &BoundingBox, found: &mut Vec<usize>)
         requires { vec_len found.old + length self.now.entries ≤ vec_capacity found.old }
         ensures items { found.new.items ≡ found.old.items ++ names_meeting area.now self.now.entries }
         ensures len { vec_len found.new ≤ vec_len found.old + length self.now.entries }

@@ -155,9 +155,11 @@ pub record IsSeen (i : Inside) (seen : Past) : Type 0 where
   pub capacity_by_edge : seen.capacity_by_edge ≡ i.by_edge.capacity_of_nodes
   pub capacity_by_curve : seen.capacity_by_curve ≡ i.by_curve.capacity_of_nodes
   pub capacity_of_pieces : seen.capacity_of_pieces ≡ i.pieces.capacity
+  pub rows : seen.rows ≡ i.pieces.rows
+  pub indexed : seen.indexed ≡ i.pieces.indexed
 
 pub sees : (i : Inside) (seen : Past) → past i.by_edge i.by_curve i.pieces i.next ≡ seen → IsSeen i seen
-sees i seen h = subst (IsSeen i) h (record { pairs = refl; names = refl; pieces = refl; next = refl; spare_names = refl; spare_pieces = refl; spare_pairs = refl; capacity_by_edge = refl; capacity_by_curve = refl; capacity_of_pieces = refl })
+sees i seen h = subst (IsSeen i) h (record { pairs = refl; names = refl; pieces = refl; next = refl; spare_names = refl; spare_pieces = refl; spare_pairs = refl; capacity_by_edge = refl; capacity_by_curve = refl; capacity_of_pieces = refl; rows = refl; indexed = refl })
 
 module _ (i : Inside) (old : Past) (v : IsSeen i old) where
   held_old : (x : DartId) → strands_on old x ≡ listed i.by_edge x.0

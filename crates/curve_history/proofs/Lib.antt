@@ -7,6 +7,7 @@ pub mod Facing
 pub mod Histories
 pub mod Naming
 pub mod Numbers
+pub mod Passing
 pub mod Placing
 pub mod Reading
 pub mod Replaced

@@ -95,6 +95,8 @@ past edges curves pieces next = record {
   capacity_by_edge = edges.capacity_of_nodes;
   capacity_by_curve = curves.capacity_of_nodes;
   capacity_of_pieces = pieces.capacity;
+  rows = pieces.rows;
+  indexed = pieces.indexed;
 }
 
 -- the pairs are twins, said once; the edges with a key are those with curves; their chains are in order; the numbers of curves are below the next one; and there are fewer than 2^32 pieces (this project)

@@ -1,14 +1,15 @@
 -- What a caller sees of a history: which curves run along which edges, the named curves, their pieces, and the next number.
-use Rattle.std.specs.Prelude.{◌≡◌, ◌==◌, ◌≤◌, ◌+◌, ℕ, List, [], map, cond, not}
+use Rattle.std.specs.Prelude.{◌≡◌, ◌==◌, ◌≤◌, ◌+◌, ℕ, Bool, List, [], map, cond, not}
 use Rattle.std.specs.List.{filter}
 use Rattle.std.specs.Ordering.{nat_cmp}
 use Rattle.plane_graphs.specs.Ascending.{ascending, place}
 use Rattle.plane_graphs.specs.Graph.{same_curve}
 use Rattle.plane_graphs.specs.Piece.{Piece}
 use Rattle.slab_laws.specs.declared.names.DartId.{DartId}
+use Rattle.slab_laws.specs.declared.present.Piece.{Piece as PieceInMemory}
 use Rattle.edit_steps.specs.EditLaws.{curve_of}
 
--- pairs of an edge, by the name of its dart from the lower to the upper end, and a side of a curve along it, by its number among all sides; the numbers of the named curves, ascending; the pieces, in the order in which they came; the number that the next curve gets; how many more of each fit with no memory; and how many pairs, by edge and by curve, and how many pieces fit in all (CGAL manual, arrangements with history)
+-- pairs of an edge, by the name of its dart from the lower to the upper end, and a side of a curve along it, by its number among all sides; the numbers of the named curves, ascending; the pieces, in the order in which they came; the number that the next curve gets; how many more of each fit with no memory; how many pairs, by edge and by curve, and how many pieces fit in all; and the pieces by name, in their order, and whether they have an index over their boxes (CGAL manual, arrangements with history; the index is this project's)
 pub record Past : Type 0 where
   pub pairs : List (ℕ × ℕ)
   pub names : List ℕ
@@ -20,6 +21,8 @@ pub record Past : Type 0 where
   pub capacity_by_edge : ℕ
   pub capacity_by_curve : ℕ
   pub capacity_of_pieces : ℕ
+  pub rows : List (ℕ × PieceInMemory)
+  pub indexed : Bool
 
 -- the sides of curves along the edge of a dart, by their numbers among all sides, ascending; none for other names (this project)
 unfoldable pub strands_on : Past → DartId → List ℕ

@@ -42,7 +42,7 @@ fn runs_along(piece: &Piece, p: &Point, q: &Point) -> bool
     is_on(&piece.segment, p) && is_on(&piece.segment, q)
 }
 
-fn comes_before(p: &Point, q: &Point) -> bool
+pub(crate) fn comes_before(p: &Point, q: &Point) -> bool
     ensures { result ≡ precedes p.now q.now }
 {
     *p < *q

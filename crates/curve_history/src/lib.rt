@@ -1,5 +1,5 @@
 //! The history of an arrangement's curves: which curves run along which edges, seen from both, the named curves and their
-//! pieces.
+//! pieces, with an index over the pieces' boxes.
 //!
 //! An edge is told by the name of its dart from the lower to the upper end. After `reserve` the changes take no memory.
 #![tactic(auto)]
@@ -8,9 +8,11 @@ mod changes;
 mod cuts;
 mod drawn;
 mod history;
+mod indexed;
 mod layers;
 mod others;
 mod pairs;
+mod passed;
 mod strands;
 mod walks;
 

@@ -39,8 +39,8 @@ fn find(edges: &Chains, curves: &Chains, edge: usize, curve: usize) -> Option<us
     None
 }
 
-// The node that says an edge and a side.
-fn find_strand(edges: &Chains, edge: usize, strand: usize) -> Option<usize>
+/// The node that says an edge and a side.
+pub(crate) fn find_strand(edges: &Chains, edge: usize, strand: usize) -> Option<usize>
     ensures some { IfSome result (λ n. (t : _) × (entry_at edges.now n ≡ Some (entry edge strand t))) }
     ensures none { IfNone result (¬ Says edges.now edge strand) }
 {

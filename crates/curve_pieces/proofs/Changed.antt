@@ -1,5 +1,5 @@
 -- Pieces in their caller's words, before and after each change.
-use Rattle.std.proofs.Common.{◌≡◌, ◌≢◌, inl, inr, ℕ, ◌+◌, ◌-◌, ◌≤◌, ◌==◌, List, [], ◌∷◌, ◌++◌, length, min, cond, count_by, slice_index_or, Option, Some, None, is_some, IsSome, option_map, refl, sym, ap, subst, ◌∙◌, arith, Contains}
+use Rattle.std.proofs.Common.{◌≡◌, ◌≢◌, inl, inr, ℕ, ◌+◌, ◌-◌, ◌≤◌, ◌==◌, Bool, List, [], ◌∷◌, ◌++◌, length, min, cond, count_by, slice_index_or, Option, Some, None, is_some, IsSome, option_map, refl, sym, ap, subst, ◌∙◌, arith, Contains}
 use Rattle.std.proofs.Math.ListN.{length-map}
 use Rattle.std.specs.List.{IsDistinct}
 use Rattle.indexmap.specs.IndexMap.{IndexMap, spare}
@@ -30,7 +30,7 @@ use Rattle.curve_pieces.proofs.Ends.{last_in, put_end}
 use Rattle.curve_pieces.proofs.Named.{are_rows, row_gone, row_last, row_put, row_set}
 use Rattle.curve_pieces.proofs.Ordered.{once, there, is_in, in_slab, not_in, names_seen, first_seen, next_seen, counted, order_is, order_made}
 
-module _ {S : Type 0} (s : Slab Row) (ends : Ends) (heads : IndexMap ℕ (Option ℕ) S) (r : Rowed) (is : pieces_seen s ends heads ≡ r) (sound : AreSoundPieces s ends heads) where
+module _ {S : Type 0} {indexed : Bool} (s : Slab Row) (ends : Ends) (heads : IndexMap ℕ (Option ℕ) S) (r : Rowed) (is : pieces_seen s ends heads indexed ≡ r) (sound : AreSoundPieces s ends heads) where
   pub rows_seen : rows_from s ends.first ≡ r.rows
   rows_seen = ap (λ z. z.rows) is
 
@@ -192,7 +192,7 @@ pub nothing_seen : (s : Slab Row) → s.slots ≡ [] → rows_from s None ≡ []
 nothing_seen s e = ap (rows_of (piece_in s)) (order_is s None [] (none_listed s e))
 
 -- a number of rows and the room beside them are within all that fit
-pub within : {S : Type 0} (s : Slab Row) (ends : Ends) (heads : IndexMap ℕ (Option ℕ) S) (r : Rowed) (is : pieces_seen s ends heads ≡ r) → AreSoundPieces s ends heads → (capacity : ℕ) → capacity ≡ s.capacity → slab_len s ≤ capacity → length r.rows + r.spare ≤ r.capacity
+pub within : {S : Type 0} {indexed : Bool} (s : Slab Row) (ends : Ends) (heads : IndexMap ℕ (Option ℕ) S) (r : Rowed) (is : pieces_seen s ends heads indexed ≡ r) → AreSoundPieces s ends heads → (capacity : ℕ) → capacity ≡ s.capacity → slab_len s ≤ capacity → length r.rows + r.spare ≤ r.capacity
 within s ends heads r is sound capacity e h =
     let a = is_counted s ends heads r is sound in
     let b : s.capacity ≡ r.capacity = ap (λ z. z.capacity) is in

@@ -2,6 +2,7 @@ pub mod Changed
 pub mod Emptied
 pub mod Ends
 pub mod Heads
+pub mod Indexed
 pub mod Named
 pub mod Ordered
 pub mod Put

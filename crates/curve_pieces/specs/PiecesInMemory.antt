@@ -1,13 +1,15 @@
--- How a slab of rows, its ends and a map of heads are pieces (this project).
-use Rattle.std.specs.Prelude.{◌≡◌, ◌-◌, ◌==◌, ◌≤◌, ℕ, List, [], ◌∷◌, cond, min, length, Option, Some, None, option_map, Contains}
+-- How a slab of rows, its ends, a map of heads and an index are pieces (this project).
+use Rattle.std.specs.Prelude.{◌≡◌, ◌-◌, ◌==◌, ◌≤◌, ℕ, Bool, true, List, [], ◌∷◌, cond, min, length, Option, Some, None, option_map, Contains}
 use Rattle.indexmap.specs.IndexMap.{IndexMap, spare}
 use Rattle.slab.specs.Slab.{Slab, get, slab_len, ContainsKey}
 use Rattle.slab_laws.specs.Tables.{row_at}
 use Rattle.slab_laws.specs.declared.present.Piece.{Piece}
 use Rattle.chain_laws.specs.Links.{Node, trail, after_at, IsLinked, IsListed, AreListed}
+use Rattle.std.specs.List.Sorted.{IsPermutation}
+use Rattle.curve_pieces.specs.declared.index.PieceIndex.{PieceIndex}
 use Rattle.curve_pieces.specs.declared.row.Row.{Row}
 use Rattle.curve_pieces.specs.declared.row.Ends.{Ends}
-use Rattle.curve_pieces.specs.PieceRows.{Rowed}
+use Rattle.curve_pieces.specs.PieceRows.{Rowed, entries_of}
 
 -- a row in the order of all pieces, where all have one key, and in the list of its curve
 abbrev pub order_node : Row → Node
@@ -72,13 +74,23 @@ pub record IsRest (s : Slab Row) (at : Option ℕ) : Type 0 where
   pub there : (n : ℕ) → Contains names n → ContainsKey s n
   pub few : length names ≤ slab_len s
 
-abbrev pub pieces_seen : {S : Type 0} → Slab Row → Ends → IndexMap ℕ (Option ℕ) S → Rowed
-pieces_seen s ends heads = record {
+abbrev pub pieces_seen : {S : Type 0} → Slab Row → Ends → IndexMap ℕ (Option ℕ) S → Bool → Rowed
+pieces_seen s ends heads indexed = record {
   rows = rows_from s ends.first;
   spare = min (spare heads) (s.capacity - slab_len s);
   capacity = s.capacity;
+  indexed = indexed;
 }
 
 pub record AreSoundPieces {S : Type 0} (s : Slab Row) (ends : Ends) (heads : IndexMap ℕ (Option ℕ) S) : Type 0 where
   pub order : IsOrder s ends
   pub curves : AreListed (row_at heads.entries) (curve_nodes s)
+
+-- while it is whole, its entries are those of the rows
+abbrev pub IsIndexOf : PieceIndex → List (ℕ × Piece) → Type 0
+IsIndexOf i rows = i.whole ≡ true → IsPermutation i.boxes.entries (entries_of rows)
+
+-- sound pieces with their index (this project)
+pub record AreIndexedPieces {S : Type 0} (s : Slab Row) (ends : Ends) (heads : IndexMap ℕ (Option ℕ) S) (index : PieceIndex) : Type 0 where
+  pub sound : AreSoundPieces s ends heads
+  pub boxes : IsIndexOf index (rows_from s ends.first)

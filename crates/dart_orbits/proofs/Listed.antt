@@ -6,9 +6,8 @@ use Rattle.std.specs.List.Sorted.{IsPermutation, IsSorted}
 use Rattle.std.specs.Ordering.{ordering_then, nat_cmp, bool_cmp, eq_by_cmp}
 use Rattle.std.specs.Cmp.{nat_cmp_total}
 use Rattle.std.proofs.lemmas.Cmp.{tied_itself}
-use Rattle.std.proofs.lemmas.Grind.{flat_map-append}
-use Rattle.std.proofs.lemmas.List.{get_or-map, take_more, append_assoc, append-nil, length-map}
-use Rattle.std.proofs.lemmas.List.Sorted.{Contains-permutation, IsPermutation-sym}
+use Rattle.std.proofs.lemmas.List.{get_or-map, append_assoc, length-map}
+use Rattle.std.proofs.lemmas.List.Sorted.{Contains-permutation, IsPermutation-sym, IsPermutation-refl, IsPermutation-trans, IsPermutation-cons, IsPermutation-append_left, IsPermutation-append_comm}
 use Rattle.exact_plane.specs.Point.{Point}
 use Rattle.exact_plane.specs.Span.{Span}
 use Rattle.exact_plane.specs.PointOrder.{point_cmp}
@@ -28,7 +27,7 @@ use Rattle.slab_faces.proofs.Member.{member_in, in_member}
 use Rattle.slab_faces.proofs.Places.{points_exact, edges_exact}
 use Rattle.slab_faces.proofs.NextLemmas.{darts_exact, dart_out, dart_in}
 use Rattle.slab_faces.proofs.DartOrder.{dart_cmp_total, list_ascends, listed_out, listed_in}
-use Rattle.dart_orbits.specs.DartRows.{edge_rows, row_dart, twin_row, rows_of_both, ahead_rows}
+use Rattle.dart_orbits.specs.DartRows.{edge_rows, row_dart, twin_row, ahead_rows}
 use Rattle.dart_orbits.specs.Ways.{no_row}
 use Rattle.dart_orbits.proofs.Pushed.{pushed}
 use Rattle.dart_orbits.proofs.Placed.{AreApart, one_place, place_at, place_within, at_place, counted_apart, ascending_apart, lower}
@@ -188,20 +187,28 @@ module _ (g : Skeleton) (plane : IsPlaneSkeleton g) where
 pub turned_is : (g : Skeleton) (d : Dart) → twin_row (dart_row g d) ≡ dart_row g (twin d)
 turned_is g d = λ i. record { source = vertex_place g (target d); target = vertex_place g (start d.edge (sym (not_not d.forward) i)); edge = edge_place g d.edge; forward = not d.forward }
 
-both_rows : (g : Skeleton) (es : List Edge) → flat_map rows_of_both (map (λ e. dart_row g (ahead e)) es) ≡ flat_map (edge_rows g) es
-both_rows g [] = refl
-both_rows g (e ∷ es) = λ i. dart_row g (ahead e) ∷ (turned_is g (ahead e) i ∷ both_rows g es i)
+-- an element in front of the second of two lists goes in front of both
+to_front : {X : Type 0} (x : X) (us vs : List X) → IsPermutation (us ++ (x ∷ vs)) (x ∷ (us ++ vs))
+to_front x us vs =
+    subst (λ ws. IsPermutation ws (x ∷ (us ++ vs))) (append_assoc us (x ∷ []) vs)
+    (IsPermutation-append_left vs (us ++ (x ∷ [])) (x ∷ us) (IsPermutation-append_comm us (x ∷ [])))
 
-pub rows_are : (g : Skeleton) (ahead us : List ListedDart) → ahead ≡ ahead_rows g → us ≡ flat_map rows_of_both ahead → us ≡ flat_map (edge_rows g) g.edges
-rows_are g ahead us a b = b ∙ ap (flat_map rows_of_both) a ∙ both_rows g g.edges
+both_rows : (g : Skeleton) (es : List Edge) → IsPermutation (map (λ e. dart_row g (ahead e)) es ++ map twin_row (map (λ e. dart_row g (ahead e)) es)) (flat_map (edge_rows g) es)
+both_rows g [] = IsPermutation-refl []
+both_rows g (e ∷ es) =
+    let r = dart_row g (ahead e) in
+    let us = map (λ e. dart_row g (ahead e)) es in
+    let vs = map twin_row us in
+    IsPermutation-cons r (us ++ (twin_row r ∷ vs)) (dart_row g (back e) ∷ flat_map (edge_rows g) es)
+    (subst (λ s. IsPermutation (us ++ (twin_row r ∷ vs)) (s ∷ flat_map (edge_rows g) es)) (turned_is g (ahead e))
+    (IsPermutation-trans (us ++ (twin_row r ∷ vs)) (twin_row r ∷ (us ++ vs)) (twin_row r ∷ flat_map (edge_rows g) es) (to_front (twin_row r) us vs) (IsPermutation-cons (twin_row r) (us ++ vs) (flat_map (edge_rows g) es) (both_rows g es))))
 
--- one more of both
-pub both_added : (ahead us vs ws : List ListedDart) (i : ℕ) (r : ListedDart) → i < length ahead → us ≡ flat_map rows_of_both (take i ahead) → vs ≡ us ++ (get_or ahead i r ∷ []) → ws ≡ vs ++ (twin_row (get_or ahead i r) ∷ []) → ws ≡ flat_map rows_of_both (take (i + 1) ahead)
-both_added ahead us vs ws i r l a b c =
-    c ∙ (λ j. b j ++ (twin_row (get_or ahead i r) ∷ [])) ∙ append_assoc us _ _
-    ∙ (λ j. a j ++ sym (append-nil (rows_of_both (get_or ahead i r))) j)
-    ∙ sym (flat_map-append rows_of_both (take i ahead) (get_or ahead i r ∷ []))
-    ∙ ap (flat_map rows_of_both) (sym (take_more ahead i r l))
+-- the rows that go forward and those of their twins, sorted
+pub rows_sorted : (g : Skeleton) (ahead us vs : List ListedDart) → IsPlaneSkeleton g → IsAscending point_cmp g.vertices → ahead ≡ ahead_rows g → us ≡ ahead ++ map twin_row ahead → IsPermutation us vs → IsSorted row_cmp vs → vs ≡ dart_rows g
+rows_sorted g ahead us vs plane ascend a b p s =
+    let all = flat_map (edge_rows g) g.edges in
+    let q : IsPermutation all us = IsPermutation-sym us all (subst (λ ws. IsPermutation ws all) (sym (b ∙ ap (λ rs. rs ++ map twin_row rs) a)) (both_rows g g.edges)) in
+    sorted_rows g plane ascend all vs refl (IsPermutation-trans all us vs q p) s
 
 -- one more that goes forward
 pub row_added : (points : List Point) (edges : List Span) (i : ℕ) (span : Span) (p q : Point) (low high : ℕ) (us vs : List ListedDart) →

@@ -19,10 +19,6 @@ row_dart es r = record { edge = slice_index_or es r.edge no_dart.edge; forward =
 abbrev pub twin_row : ListedDart → ListedDart
 twin_row r = record { source = r.target; target = r.source; edge = r.edge; forward = not r.forward }
 
--- a row with that of the twin
-abbrev pub rows_of_both : ListedDart → List ListedDart
-rows_of_both r = r ∷ twin_row r ∷ []
-
 -- the rows of the darts that go forward, in the order of their edges (this project)
 abbrev pub ahead_rows : Skeleton → List ListedDart
 ahead_rows g = map (λ e. dart_row g (ahead e)) g.edges

@@ -1,16 +1,16 @@
-ghost use Rattle.std.specs.Prelude.{◌≡◌, IfOk, flat_map};
+ghost use Rattle.std.specs.Prelude.{◌≡◌, ◌++◌, map, IfOk};
 ghost use Rattle.std.specs.List.{position_or_len};
 ghost use Rattle.exact_plane.specs.PointOrder.{point_cmp};
 ghost use Rattle.plane_graphs.specs.Ascending.{IsAscending};
 ghost use Rattle.slab_laws.specs.Skeleton.{IsPlaneSkeleton, same_point};
 ghost use Rattle.slab_laws.specs.SpansDrawn.{drawn};
 ghost use Rattle.slab_laws.specs.Rows.{dart_rows};
-ghost use Rattle.dart_orbits.specs.DartRows.{ahead_rows, rows_of_both, twin_row};
+ghost use Rattle.dart_orbits.specs.DartRows.{ahead_rows, twin_row};
 
 use exact_plane::{Point, Span};
 use no_memory::NoMemory;
 use slab_laws::ListedDart;
-use std::alloc::Global;
+use std::alloc::{AllocError, Global};
 
 // The place of a point among the points, or their number where it isn't there.
 fn place_of(points: &[Point], point: &Point) -> usize
@@ -60,16 +60,12 @@ fn twin_row(dart: &ListedDart) -> ListedDart
     }
 }
 
-// Each row with that of the twin.
-fn with_twins(alloc: Global, ahead: &[ListedDart]) -> Result<Vec<ListedDart>, NoMemory>
-    ensures { IfOk result (λ rs. rs.items ≡ flat_map rows_of_both ahead.now) }
+// The rows, and after them those of the twins.
+fn with_twins(alloc: Global, ahead: &[ListedDart]) -> Result<Vec<ListedDart>, AllocError>
+    ensures { IfOk result (λ rs. rs.items ≡ ahead.now ++ map twin_row ahead.now) }
 {
-    let mut rows = Vec::new(alloc);
-    for row in ahead {
-        rows.push(*row)?;
-        rows.push(twin_row(row))?;
-    }
-    Ok(rows)
+    let twins = ahead.iter().map(|row| twin_row(row));
+    ahead.iter().copied().chain(twins).collect(alloc)
 }
 
 /// The darts of a plane graph, two for each edge, by source, then by target (CGAL manual, halfedge), from the rows of those that go
@@ -90,8 +86,8 @@ pub fn darts_by_rows(
     ensures { IfOk result (λ rs. rs.items ≡ dart_rows (drawn points.now edges.now)) }
 {
     let mut rows = with_twins(alloc, ahead)?;
-    // No two darts have one source and one target, so that the order is the same whatever the sort does with ties.
-    rows.sort_unstable();
+    // Edges that stand in their order give the first half in order, which this sort keeps as one run; it sorts the twins and merges.
+    rows.sort()?;
     Ok(rows)
 }
 

@@ -9,7 +9,6 @@ use Rattle.slab.specs.Slab.{Slab, get, entries, slab_len, ContainsKey, with_valu
 use Rattle.slab.proofs.SlabLemmas.{Updates-with_value}
 use Rattle.slab_laws.specs.declared.names.FaceId.{FaceId}
 use Rattle.slab_laws.specs.declared.names.VertexId.{VertexId}
-use Rattle.slab_laws.specs.FaceLists.{MovedView}
 use Rattle.slab_laws.specs.Tables.{row_at, names}
 use Rattle.slab_laws.specs.View.{Faces, VertexRecord, HasBareFace, cycle_id, vertex_id, face_id}
 use Rattle.arr_notes.specs.FaceWriters.{bare_in, not_bare}
@@ -18,9 +17,8 @@ use Rattle.chain_laws.specs.Links.{Node, first_or, key_at, without}
 use Rattle.chain_laws.proofs.Distinct.{without_absent}
 use Rattle.chain_laws.specs.Rows.{tabled}
 use Rattle.chain_laws.proofs.Tabled.{row-tabled, ascend-tabled}
-use Rattle.dcel_records.specs.declared.ranks.RankKey.{RankKey}
+use Rattle.dcel_records.specs.declared.records.Records.TheInside.{Inside}
 use Rattle.dcel_records.specs.declared.rows.Place.{Place}
-use Rattle.dcel_records.specs.declared.rows.StoredCycle.{StoredCycle}
 use Rattle.dcel_records.specs.declared.rows.StoredDart.{StoredDart}
 use Rattle.dcel_records.specs.declared.rows.StoredFace.{StoredFace}
 use Rattle.dcel_records.specs.declared.rows.StoredVertex.{StoredVertex}
@@ -71,8 +69,9 @@ module _ (vs ws : Slab StoredVertex) (ds : Slab StoredDart) (rests : (n : ℕ) �
   pub graph_left : (h : GraphView) → graph_view vs ds ≡ h → graph_view ws ds ≡ graph_moved ws ds h
   graph_left h is = λ i. record { graph = (graph_same ∙ ap (λ v. v.graph) is) i; spare_vertices = ws.capacity - slab_len ws; spare_darts = ds.capacity - slab_len ds; capacity_of_vertices = ws.capacity; capacity_of_darts = ds.capacity }
 
-  pub graph_part_same : (cs es : Slab StoredCycle) (fs gs : Slab StoredFace) (mv mv' : Option MovedView) (od : List RankKey) (vr cr cr' : ℕ) (mp : Bool) (h : RecordsView) → records_view vs ds cs fs mv od vr cr mp ≡ h → slab_len ws ≡ slab_len vs → graph_part (records_view ws ds es gs mv' od vr cr' mp) ≡ graph_part h
-  graph_part_same cs es fs gs mv mv' od vr cr cr' mp h is l = (λ i. record { graph = graph_same i; spare_vertices = vr - l i; spare_darts = ds.capacity - slab_len ds; capacity_of_vertices = vr; capacity_of_darts = ds.capacity }) ∙ ap graph_part is
+pub graph_part_same : (store : Inside) (ws : Slab StoredVertex) → ((n : ℕ) → option_map (rest_of vertex_placing) (get ws n) ≡ option_map (rest_of vertex_placing) (get store.vertices n)) → (h : RecordsView) → records_view store ≡ h → slab_len ws ≡ slab_len store.vertices → graph_part (records_view (record store { vertices = ws })) ≡ graph_part h
+graph_part_same store ws rests h is l =
+    (λ i. record { graph = graph_same store.vertices ws store.darts rests i; spare_vertices = store.vertex_room - l i; spare_darts = store.darts.capacity - slab_len store.darts; capacity_of_vertices = store.vertex_room; capacity_of_darts = store.darts.capacity }) ∙ ap graph_part is
 
 -- ---- what links of vertices leave
 module _ (vs ws : Slab StoredVertex) (fs gs : Slab StoredFace) (r : IsRelinked vertex_placing vs ws fs gs) where
@@ -94,101 +93,101 @@ module _ (vs ws : Slab StoredVertex) (fs gs : Slab StoredFace) (r : IsRelinked v
 pub relinked_both : (vs us ws : Slab StoredVertex) (fs gs hs : Slab StoredFace) → IsRelinked vertex_placing vs us fs gs → IsRelinked vertex_placing us ws gs hs → IsRelinked vertex_placing vs ws fs hs
 relinked_both vs us ws fs gs hs a b = record { rests = λ n. b.rests n ∙ a.rests n; face_rests = λ k. b.face_rests k ∙ a.face_rests k; len = b.len ∙ a.len; capacity = b.capacity ∙ a.capacity; faces_len = b.faces_len ∙ a.faces_len; faces_capacity = b.faces_capacity ∙ a.faces_capacity }
 
-module _ (vs : Slab StoredVertex) (ds : Slab StoredDart) (cs : Slab StoredCycle) (fs : Slab StoredFace) (mv : Option MovedView) (od : List RankKey) (vr cr : ℕ) (mp : Bool) (h : RecordsView) (is : records_view vs ds cs fs mv od vr cr mp ≡ h) (k : AreSoundFaces vs cs fs) where
+module _ (store : Inside) (h : RecordsView) (is : records_view store ≡ h) (k : AreSoundFaces store.vertices store.cycles store.faces) where
   -- the cycles' chains stay where faces keep their first cycles
-  module _ (gs : Slab StoredFace) (firsts : (a : ℕ) → heads cycle_placing gs a ≡ heads cycle_placing fs a) where
-    pub cycles_chained : AreChained cycle_placing cs gs
-    cycles_chained = chained_same cycle_placing cs fs k.cycles cs gs refl (λ a. ap first_or (firsts a)) (λ n a e s. ap is_some (firsts a) ∙ s)
+  module _ (gs : Slab StoredFace) (firsts : (a : ℕ) → heads cycle_placing gs a ≡ heads cycle_placing store.faces a) where
+    pub cycles_chained : AreChained cycle_placing store.cycles gs
+    cycles_chained = chained_same cycle_placing store.cycles store.faces k.cycles store.cycles gs refl (λ a. ap first_or (firsts a)) (λ n a e s. ap is_some (firsts a) ∙ s)
 
-    pub cycles_own : (a : ℕ) → own cycle_placing cs gs a ≡ own cycle_placing cs fs a
-    cycles_own = own_same cycle_placing cs fs k.cycles cs gs refl (λ a. ap first_or (firsts a))
+    pub cycles_own : (a : ℕ) → own cycle_placing store.cycles gs a ≡ own cycle_placing store.cycles store.faces a
+    cycles_own = own_same cycle_placing store.cycles store.faces k.cycles store.cycles gs refl (λ a. ap first_or (firsts a))
 
-  bare_row : (v : VertexId) → row_at h.faces.tables.bare v.0 ≡ option_map face_id (key_at (nodes vertex_placing vs) v.0)
-  bare_row v = ap (λ (t : Faces). row_at t.bare v.0) (sym (ap tables_of is)) ∙ bare_seen vs v.0
+  bare_row : (v : VertexId) → row_at h.faces.tables.bare v.0 ≡ option_map face_id (key_at (nodes vertex_placing store.vertices) v.0)
+  bare_row v = ap (λ (t : Faces). row_at t.bare v.0) (sym (ap tables_of is)) ∙ bare_seen store.vertices v.0
 
-  pub bare_none : (v : VertexId) → ¬ HasBareFace h.faces.tables v → nodes vertex_placing vs v.0 ≡ None
-  bare_none v n = node_none (nodes vertex_placing vs v.0) (by (key_at (nodes vertex_placing vs) v.0) (λ s. n (ap is_some (bare_row v) ∙ some_mapped face_id (key_at (nodes vertex_placing vs) v.0) ∙ s)))
+  pub bare_none : (v : VertexId) → ¬ HasBareFace h.faces.tables v → nodes vertex_placing store.vertices v.0 ≡ None
+  bare_none v n = node_none (nodes vertex_placing store.vertices v.0) (by (key_at (nodes vertex_placing store.vertices) v.0) (λ s. n (ap is_some (bare_row v) ∙ some_mapped face_id (key_at (nodes vertex_placing store.vertices) v.0) ∙ s)))
     where
       by : (o : Option ℕ) → ¬ IsSome o → o ≡ None
       by None n = refl
       by (Some x) n = absurd (n refl)
 
-  pub bare_node : (v : VertexId) → HasBareFace h.faces.tables v → IsSome (nodes vertex_placing vs v.0)
-  bare_node v s = sym (some_mapped (λ (x : Node). x.key) (nodes vertex_placing vs v.0)) ∙ sym (some_mapped face_id (key_at (nodes vertex_placing vs) v.0)) ∙ ap is_some (sym (bare_row v)) ∙ s
+  pub bare_node : (v : VertexId) → HasBareFace h.faces.tables v → IsSome (nodes vertex_placing store.vertices v.0)
+  bare_node v s = sym (some_mapped (λ (x : Node). x.key) (nodes vertex_placing store.vertices v.0)) ∙ sym (some_mapped face_id (key_at (nodes vertex_placing store.vertices) v.0)) ∙ ap is_some (sym (bare_row v)) ∙ s
 
   -- ---- a vertex put in a face
-  module _ (v : VertexId) (none : nodes vertex_placing vs v.0 ≡ None) where
-    pub vertex_others : AreOthersChained vertex_placing v.0 vs fs
-    vertex_others = others_chained vertex_placing vs fs k.bare v.0 none vs (λ n ne. refl)
+  module _ (v : VertexId) (none : nodes vertex_placing store.vertices v.0 ≡ None) where
+    pub vertex_others : AreOthersChained vertex_placing v.0 store.vertices store.faces
+    vertex_others = others_chained vertex_placing store.vertices store.faces k.bare v.0 none store.vertices (λ n ne. refl)
 
-    module _ (face : FaceId) (ws : Slab StoredVertex) (gs : Slab StoredFace) (l : IsLinkedFirst vertex_placing v.0 face vs ws fs gs) where
-      pub set_sound : AreSoundFaces ws cs gs
-      set_sound = record { cycles = cycles_chained gs (cycle_firsts vs ws fs gs l.kept); bare = l.chained; unbounded = bare_face_there vs ws fs gs l.kept 0 k.unbounded }
+    module _ (face : FaceId) (ws : Slab StoredVertex) (gs : Slab StoredFace) (l : IsLinkedFirst vertex_placing v.0 face store.vertices ws store.faces gs) where
+      pub set_sound : AreSoundFaces ws store.cycles gs
+      set_sound = record { cycles = cycles_chained gs (cycle_firsts store.vertices ws store.faces gs l.kept); bare = l.chained; unbounded = bare_face_there store.vertices ws store.faces gs l.kept 0 k.unbounded }
 
-      pub set_tables : tables_in ws ds cs gs ≡ bare_in v face h.faces.tables
-      set_tables = tables_after vs ds cs fs mv od vr cr mp h is ws ds cs gs (bare_in v face) (λ i. record { cycle_of = tabled (λ r. r.cycle) ds; bare = bare_put vs ws v.0 face l.keys i; cycles = tabled cycle_record cs; faces = face_names vs ws fs gs l.kept i })
+      pub set_tables : tables_in ws store.darts store.cycles gs ≡ bare_in v face h.faces.tables
+      set_tables = tables_after store h is ws store.darts store.cycles gs (bare_in v face) (λ i. record { cycle_of = tabled (λ r. r.cycle) store.darts; bare = bare_put store.vertices ws v.0 face l.keys i; cycles = tabled cycle_record store.cycles; faces = face_names store.vertices ws store.faces gs l.kept i })
 
-      pub set_lists : lists_in ws cs gs ≡ vertex_listed v face (lists_in vs cs fs)
-      set_lists = λ i. record { cycles = λ a. map cycle_id (cycles_own gs (cycle_firsts vs ws fs gs l.kept) a.0 i); bare = λ a. bare_at a.0 i; dart_on = λ c. dart_kept (get cs c.0) }
+      pub set_lists : lists_in ws store.cycles gs ≡ vertex_listed v face (lists_in store.vertices store.cycles store.faces)
+      set_lists = λ i. record { cycles = λ a. map cycle_id (cycles_own gs (cycle_firsts store.vertices ws store.faces gs l.kept) a.0 i); bare = λ a. bare_at a.0 i; dart_on = λ c. dart_kept (get store.cycles c.0) }
         where
-          bare_at : (a : ℕ) → map vertex_id (own vertex_placing ws gs a) ≡ cond (a == face.0) (v ∷ map vertex_id (own vertex_placing vs fs a)) (map vertex_id (own vertex_placing vs fs a))
-          bare_at a = ap (map vertex_id) (more_own vertex_placing vs fs k.bare v.0 none vs (λ n ne. refl) face ws gs l a) ∙ map_cond vertex_id (a == face.0) (v.0 ∷ own vertex_placing vs fs a) (own vertex_placing vs fs a)
+          bare_at : (a : ℕ) → map vertex_id (own vertex_placing ws gs a) ≡ cond (a == face.0) (v ∷ map vertex_id (own vertex_placing store.vertices store.faces a)) (map vertex_id (own vertex_placing store.vertices store.faces a))
+          bare_at a = ap (map vertex_id) (more_own vertex_placing store.vertices store.faces k.bare v.0 none store.vertices (λ n ne. refl) face ws gs l a) ∙ map_cond vertex_id (a == face.0) (v.0 ∷ own vertex_placing store.vertices store.faces a) (own vertex_placing store.vertices store.faces a)
 
   -- ---- a vertex out of its chain
-  module _ (v : VertexId) (us : Slab StoredVertex) (gs : Slab StoredFace) (u : IsUnlinked vertex_placing v.0 vs us fs gs) where
+  module _ (v : VertexId) (us : Slab StoredVertex) (gs : Slab StoredFace) (u : IsUnlinked vertex_placing v.0 store.vertices us store.faces gs) where
     -- and the first of another face
     module _ (face : FaceId) (ws : Slab StoredVertex) (hs : Slab StoredFace) (l : IsLinkedFirst vertex_placing v.0 face us ws gs hs) where
-      pub both : IsRelinked vertex_placing vs ws fs hs
-      both = relinked_both vs us ws fs gs hs u.kept l.kept
+      pub both : IsRelinked vertex_placing store.vertices ws store.faces hs
+      both = relinked_both store.vertices us ws store.faces gs hs u.kept l.kept
 
-      pub moved_sound : AreSoundFaces ws cs hs
-      moved_sound = record { cycles = cycles_chained hs (cycle_firsts vs ws fs hs both); bare = l.chained; unbounded = bare_face_there vs ws fs hs both 0 k.unbounded }
+      pub moved_sound : AreSoundFaces ws store.cycles hs
+      moved_sound = record { cycles = cycles_chained hs (cycle_firsts store.vertices ws store.faces hs both); bare = l.chained; unbounded = bare_face_there store.vertices ws store.faces hs both 0 k.unbounded }
 
-      pub moved_tables : tables_in ws ds cs hs ≡ bare_in v face h.faces.tables
-      moved_tables = tables_after vs ds cs fs mv od vr cr mp h is ws ds cs hs (bare_in v face) (λ i. record { cycle_of = tabled (λ r. r.cycle) ds; bare = bare_put vs ws v.0 face (λ n. l.keys n ∙ ap (cond (n == v.0) (Some face.0)) (u.keys n)) i; cycles = tabled cycle_record cs; faces = face_names vs ws fs hs both i })
+      pub moved_tables : tables_in ws store.darts store.cycles hs ≡ bare_in v face h.faces.tables
+      moved_tables = tables_after store h is ws store.darts store.cycles hs (bare_in v face) (λ i. record { cycle_of = tabled (λ r. r.cycle) store.darts; bare = bare_put store.vertices ws v.0 face (λ n. l.keys n ∙ ap (cond (n == v.0) (Some face.0)) (u.keys n)) i; cycles = tabled cycle_record store.cycles; faces = face_names store.vertices ws store.faces hs both i })
 
-      pub moved_lists : lists_in ws cs hs ≡ vertex_relisted v face (lists_in vs cs fs)
-      moved_lists = λ i. record { cycles = λ a. map cycle_id (cycles_own hs (cycle_firsts vs ws fs hs both) a.0 i); bare = λ a. bare_at a.0 i; dart_on = λ c. dart_kept (get cs c.0) }
+      pub moved_lists : lists_in ws store.cycles hs ≡ vertex_relisted v face (lists_in store.vertices store.cycles store.faces)
+      moved_lists = λ i. record { cycles = λ a. map cycle_id (cycles_own hs (cycle_firsts store.vertices ws store.faces hs both) a.0 i); bare = λ a. bare_at a.0 i; dart_on = λ c. dart_kept (get store.cycles c.0) }
         where
-          bare_at : (a : ℕ) → map vertex_id (own vertex_placing ws hs a) ≡ cond (a == face.0) (v ∷ filter (λ x. not (x.0 == v.0)) (map vertex_id (own vertex_placing vs fs a))) (filter (λ x. not (x.0 == v.0)) (map vertex_id (own vertex_placing vs fs a)))
+          bare_at : (a : ℕ) → map vertex_id (own vertex_placing ws hs a) ≡ cond (a == face.0) (v ∷ filter (λ x. not (x.0 == v.0)) (map vertex_id (own vertex_placing store.vertices store.faces a))) (filter (λ x. not (x.0 == v.0)) (map vertex_id (own vertex_placing store.vertices store.faces a)))
           bare_at a =
-              ap (map vertex_id) (moved_own vertex_placing vs fs k.bare v.0 us gs u face ws hs l a)
-              ∙ map_cond vertex_id (a == face.0) (v.0 ∷ without v.0 (own vertex_placing vs fs a)) (without v.0 (own vertex_placing vs fs a))
-              ∙ ap (λ xs. cond (a == face.0) (v ∷ xs) xs) (map_without vertex_id (λ x. x.0) (λ n. refl) v.0 (own vertex_placing vs fs a))
+              ap (map vertex_id) (moved_own vertex_placing store.vertices store.faces k.bare v.0 us gs u face ws hs l a)
+              ∙ map_cond vertex_id (a == face.0) (v.0 ∷ without v.0 (own vertex_placing store.vertices store.faces a)) (without v.0 (own vertex_placing store.vertices store.faces a))
+              ∙ ap (λ xs. cond (a == face.0) (v ∷ xs) xs) (map_without vertex_id (λ x. x.0) (λ n. refl) v.0 (own vertex_placing store.vertices store.faces a))
 
   -- ---- a vertex that has left its face
-  module _ (v : VertexId) (ws : Slab StoredVertex) (gs : Slab StoredFace) (l : HasLeft v.0 vs ws fs gs) where
-    pub left_sound : AreSoundFaces ws cs gs
-    left_sound = record { cycles = cycles_chained gs (cycle_firsts vs ws fs gs l.kept); bare = l.chained; unbounded = bare_face_there vs ws fs gs l.kept 0 k.unbounded }
+  module _ (v : VertexId) (ws : Slab StoredVertex) (gs : Slab StoredFace) (l : HasLeft v.0 store.vertices ws store.faces gs) where
+    pub left_sound : AreSoundFaces ws store.cycles gs
+    left_sound = record { cycles = cycles_chained gs (cycle_firsts store.vertices ws store.faces gs l.kept); bare = l.chained; unbounded = bare_face_there store.vertices ws store.faces gs l.kept 0 k.unbounded }
 
-    left_rows : tables_in ws ds cs gs ≡ not_bare v (tables_in vs ds cs fs)
-    left_rows = λ i. record { cycle_of = tabled (λ r. r.cycle) ds; bare = bare_del vs ws v.0 l.keys i; cycles = tabled cycle_record cs; faces = face_names vs ws fs gs l.kept i }
+    left_rows : tables_in ws store.darts store.cycles gs ≡ not_bare v (tables_in store.vertices store.darts store.cycles store.faces)
+    left_rows = λ i. record { cycle_of = tabled (λ r. r.cycle) store.darts; bare = bare_del store.vertices ws v.0 l.keys i; cycles = tabled cycle_record store.cycles; faces = face_names store.vertices ws store.faces gs l.kept i }
 
-    pub left_tables : tables_in ws ds cs gs ≡ not_bare v h.faces.tables
-    left_tables = tables_after vs ds cs fs mv od vr cr mp h is ws ds cs gs (not_bare v) left_rows
+    pub left_tables : tables_in ws store.darts store.cycles gs ≡ not_bare v h.faces.tables
+    left_tables = tables_after store h is ws store.darts store.cycles gs (not_bare v) left_rows
 
-    bare_at : (a : ℕ) → map vertex_id (own vertex_placing ws gs a) ≡ filter (λ x. not (x.0 == v.0)) (map vertex_id (own vertex_placing vs fs a))
-    bare_at a = ap (map vertex_id) (l.owns a) ∙ map_without vertex_id (λ x. x.0) (λ n. refl) v.0 (own vertex_placing vs fs a)
+    bare_at : (a : ℕ) → map vertex_id (own vertex_placing ws gs a) ≡ filter (λ x. not (x.0 == v.0)) (map vertex_id (own vertex_placing store.vertices store.faces a))
+    bare_at a = ap (map vertex_id) (l.owns a) ∙ map_without vertex_id (λ x. x.0) (λ n. refl) v.0 (own vertex_placing store.vertices store.faces a)
 
-    pub left_lists : lists_in ws cs gs ≡ vertex_unlisted v (lists_in vs cs fs)
-    left_lists = λ i. record { cycles = λ a. map cycle_id (cycles_own gs (cycle_firsts vs ws fs gs l.kept) a.0 i); bare = λ a. bare_at a.0 i; dart_on = λ c. dart_kept (get cs c.0) }
+    pub left_lists : lists_in ws store.cycles gs ≡ vertex_unlisted v (lists_in store.vertices store.cycles store.faces)
+    left_lists = λ i. record { cycles = λ a. map cycle_id (cycles_own gs (cycle_firsts store.vertices ws store.faces gs l.kept) a.0 i); bare = λ a. bare_at a.0 i; dart_on = λ c. dart_kept (get store.cycles c.0) }
 
     -- and is gone
     module _ (es : Slab StoredVertex) (gone : Updates ws es v.0 None) where
       no_node : nodes vertex_placing ws v.0 ≡ None
-      no_node = node_none (nodes vertex_placing ws v.0) (l.keys v.0 ∙ ap (λ b. cond b None (key_at (nodes vertex_placing vs) v.0)) (same_number v.0))
+      no_node = node_none (nodes vertex_placing ws v.0) (l.keys v.0 ∙ ap (λ b. cond b None (key_at (nodes vertex_placing store.vertices) v.0)) (same_number v.0))
 
       still : (n : ℕ) → nodes vertex_placing es n ≡ nodes vertex_placing ws n
       still = nodes_updated vertex_placing ws es v.0 None gone (sym no_node)
 
-      pub gone_sound : AreSoundFaces es cs gs
+      pub gone_sound : AreSoundFaces es store.cycles gs
       gone_sound = record { cycles = left_sound.cycles; bare = chained_same vertex_placing ws gs l.chained es gs (λ i n. still n i) (λ a. refl) (λ n a e s. s); unbounded = left_sound.unbounded }
 
-      pub gone_tables : tables_in es ds cs gs ≡ not_bare v h.faces.tables
-      gone_tables = (λ i. record { cycle_of = tabled (λ r. r.cycle) ds; bare = bare_same ws es (λ n. ap (option_map (λ (x : Node). x.key)) (still n)) i; cycles = tabled cycle_record cs; faces = names (entries gs) }) ∙ left_tables
+      pub gone_tables : tables_in es store.darts store.cycles gs ≡ not_bare v h.faces.tables
+      gone_tables = (λ i. record { cycle_of = tabled (λ r. r.cycle) store.darts; bare = bare_same ws es (λ n. ap (option_map (λ (x : Node). x.key)) (still n)) i; cycles = tabled cycle_record store.cycles; faces = names (entries gs) }) ∙ left_tables
 
-      pub gone_lists : lists_in es cs gs ≡ vertex_unlisted v (lists_in vs cs fs)
-      gone_lists = (λ i. record { cycles = λ a. map cycle_id (own cycle_placing cs gs a.0); bare = λ a. map vertex_id (own_same vertex_placing ws gs l.chained es gs (λ j n. still n j) (λ b. refl) a.0 i); dart_on = λ c. dart_kept (get cs c.0) }) ∙ left_lists
+      pub gone_lists : lists_in es store.cycles gs ≡ vertex_unlisted v (lists_in store.vertices store.cycles store.faces)
+      gone_lists = (λ i. record { cycles = λ a. map cycle_id (own cycle_placing store.cycles gs a.0); bare = λ a. map vertex_id (own_same vertex_placing ws gs l.chained es gs (λ j n. still n j) (λ b. refl) a.0 i); dart_on = λ c. dart_kept (get store.cycles c.0) }) ∙ left_lists
 
 -- ---- how a vertex leaves
 module _ (vs : Slab StoredVertex) (fs : Slab StoredFace) (kept : AreChained vertex_placing vs fs) (c : ℕ) (r : StoredVertex) (was : get vs c ≡ Some r) where

@@ -1,5 +1,5 @@
 -- What is true of the faces of all records: what each lists, that what is listed has a face, and how long a list can be.
-use Rattle.std.proofs.Common.{Bool, ◌≡◌, ℕ, ◌≤◌, List, [], ◌∷◌, map, length, Option, Some, None, is_some, IsSome, option_map, refl, sym, ap, subst, ◌∙◌, arith, Contains}
+use Rattle.std.proofs.Common.{◌≡◌, ℕ, ◌≤◌, List, [], ◌∷◌, map, length, Option, Some, None, is_some, IsSome, option_map, refl, sym, ap, subst, ◌∙◌, arith, Contains}
 use Rattle.std.proofs.lemmas.Bool.{false≢true}
 use Rattle.std.proofs.Math.ListN.{length-map}
 use Rattle.plane_graphs.specs.Ascending.{Member}
@@ -10,14 +10,14 @@ use Rattle.slab.proofs.SlabLemmas.{length-entries}
 use Rattle.slab_laws.specs.declared.names.CycleId.{CycleId}
 use Rattle.slab_laws.specs.declared.names.FaceId.{FaceId}
 use Rattle.slab_laws.specs.declared.names.VertexId.{VertexId}
-use Rattle.slab_laws.specs.FaceLists.{Lists, MovedView, AreOnce, AreFacesListed}
+use Rattle.slab_laws.specs.FaceLists.{Lists, AreOnce, AreFacesListed}
 use Rattle.slab_laws.specs.Tables.{names, NamesAscend}
 use Rattle.slab_laws.specs.View.{HasVertex, HasCycle, HasFace, HasBareFace, face_in, face_or, bare_face_in, bare_or, cycle_id, vertex_id, face_id}
 use Rattle.chain_laws.specs.Links.{Node, trail, after_at, first_or, key_at}
 use Rattle.chain_laws.proofs.Linked.{trail_within}
 use Rattle.chain_laws.proofs.Distinct.{IsOnce, once_from_distinct}
 use Rattle.chain_laws.proofs.Tabled.{row-tabled, ascend-tabled, length-tabled, key_named}
-use Rattle.dcel_records.specs.declared.ranks.RankKey.{RankKey}
+use Rattle.dcel_records.specs.declared.records.Records.TheInside.{Inside}
 use Rattle.dcel_records.specs.declared.rows.StoredCycle.{StoredCycle}
 use Rattle.dcel_records.specs.declared.rows.StoredDart.{StoredDart}
 use Rattle.dcel_records.specs.declared.rows.StoredFace.{StoredFace}
@@ -119,55 +119,56 @@ module _ (vs : Slab StoredVertex) (ds : Slab StoredDart) (cs : Slab StoredCycle)
     bare_once = λ a. own_once vertex_placing vs fs k.bare vertex_id (λ x. x.0) (λ n. refl) a.0;
   }
 
-  module _ (mv : Option MovedView) (od : List RankKey) (vr cr : ℕ) (mp : Bool) (h : RecordsView) (is : records_view vs ds cs fs mv od vr cr mp ≡ h) where
-    lists_are : lists_in vs cs fs ≡ lists_of h
-    lists_are = sym (lists_seen vs cs fs ds mv cr) ∙ ap lists_of is
+-- ---- what a caller sees
+module _ (store : Inside) (h : RecordsView) (is : records_view store ≡ h) where
+  lists_are : lists_in store.vertices store.cycles store.faces ≡ lists_of h
+  lists_are = sym (lists_seen store.vertices store.cycles store.faces store.darts store.moved store.cycle_room) ∙ ap lists_of is
 
-    module _ (k : AreSoundFaces vs cs fs) where
-      pub faces_listed : AreFacesListed h.faces.tables (lists_of h)
-      faces_listed = subst (λ (l : Lists). AreFacesListed h.faces.tables l) lists_are (subst (λ (v : RecordsView). AreFacesListed v.faces.tables (lists_in vs cs fs)) is (rows_listed k))
+  module _ (k : AreSoundFaces store.vertices store.cycles store.faces) where
+    pub faces_listed : AreFacesListed h.faces.tables (lists_of h)
+    faces_listed = subst (λ (l : Lists). AreFacesListed h.faces.tables l) lists_are (subst (λ (v : RecordsView). AreFacesListed v.faces.tables (lists_in store.vertices store.cycles store.faces)) is (rows_listed store.vertices store.darts store.cycles store.faces k))
 
-      pub unbounded_there : HasFace h.faces.tables (face_id 0)
-      unbounded_there = subst (λ (v : RecordsView). HasFace v.faces.tables (face_id 0)) is (key_named fs 0 k.unbounded)
+    pub unbounded_there : HasFace h.faces.tables (face_id 0)
+    unbounded_there = subst (λ (v : RecordsView). HasFace v.faces.tables (face_id 0)) is (key_named store.faces 0 k.unbounded)
 
-      pub cycle_face_there : (c : CycleId) → HasCycle h.faces.tables c → HasFace h.faces.tables (face_in h.faces.tables c)
-      cycle_face_there = subst (λ (v : RecordsView). (c : CycleId) → HasCycle v.faces.tables c → HasFace v.faces.tables (face_in v.faces.tables c)) is (λ c i. key_faced cycle_placing cs fs k.cycles c.0 _ (place_of_cycle c i))
+    pub cycle_face_there : (c : CycleId) → HasCycle h.faces.tables c → HasFace h.faces.tables (face_in h.faces.tables c)
+    cycle_face_there = subst (λ (v : RecordsView). (c : CycleId) → HasCycle v.faces.tables c → HasFace v.faces.tables (face_in v.faces.tables c)) is (λ c i. key_faced cycle_placing store.cycles store.faces k.cycles c.0 _ (place_of_cycle store.vertices store.darts store.cycles store.faces c i))
 
-      pub bare_face_there : (v : VertexId) → HasBareFace h.faces.tables v → HasFace h.faces.tables (bare_face_in h.faces.tables v)
-      bare_face_there = subst (λ (v : RecordsView). (w : VertexId) → HasBareFace v.faces.tables w → HasFace v.faces.tables (bare_face_in v.faces.tables w)) is (λ w i. key_faced vertex_placing vs fs k.bare w.0 _ (place_of_bare w i))
+    pub bare_face_there : (v : VertexId) → HasBareFace h.faces.tables v → HasFace h.faces.tables (bare_face_in h.faces.tables v)
+    bare_face_there = subst (λ (v : RecordsView). (w : VertexId) → HasBareFace v.faces.tables w → HasFace v.faces.tables (bare_face_in v.faces.tables w)) is (λ w i. key_faced vertex_placing store.vertices store.faces k.bare w.0 _ (place_of_bare store.vertices store.darts store.cycles store.faces w i))
 
-    pub isolated_there : (v : VertexId) → HasBareFace h.faces.tables v → HasVertex h.graph v
-    isolated_there = subst (λ (w : RecordsView). (v : VertexId) → HasBareFace w.faces.tables v → HasVertex w.graph v) is bare_vertex
+  pub isolated_there : (v : VertexId) → HasBareFace h.faces.tables v → HasVertex h.graph v
+  isolated_there = subst (λ (w : RecordsView). (v : VertexId) → HasBareFace w.faces.tables v → HasVertex w.graph v) is (bare_vertex store.vertices store.darts store.cycles store.faces)
 
-    pub cycles_within : IsRoom cr cs → (a : FaceId) → length ((lists_of h).cycles a) ≤ h.faces.capacity_of_cycles
-    cycles_within i a = subst (λ (l : Lists). length (l.cycles a) ≤ h.faces.capacity_of_cycles) lists_are (subst (λ (v : RecordsView). length ((lists_in vs cs fs).cycles a) ≤ v.faces.capacity_of_cycles) is (named_short cycle_placing cs fs cycle_id cr a.0 i))
+  pub cycles_within : IsRoom store.cycle_room store.cycles → (a : FaceId) → length ((lists_of h).cycles a) ≤ h.faces.capacity_of_cycles
+  cycles_within i a = subst (λ (l : Lists). length (l.cycles a) ≤ h.faces.capacity_of_cycles) lists_are (subst (λ (v : RecordsView). length ((lists_in store.vertices store.cycles store.faces).cycles a) ≤ v.faces.capacity_of_cycles) is (named_short cycle_placing store.cycles store.faces cycle_id store.cycle_room a.0 i))
 
-    pub all_cycles_within : IsRoom cr cs → length h.faces.tables.cycles ≤ h.faces.capacity_of_cycles
-    all_cycles_within i =
-        let l = length-tabled cycle_record cs in
-        let a = ap (λ v. length v.faces.tables.cycles) is in
-        let b = ap (λ v. v.faces.capacity_of_cycles) is in
-        let m = i.holds in
-        omega arith
+  pub all_cycles_within : IsRoom store.cycle_room store.cycles → length h.faces.tables.cycles ≤ h.faces.capacity_of_cycles
+  all_cycles_within i =
+      let l = length-tabled cycle_record store.cycles in
+      let a = ap (λ v. length v.faces.tables.cycles) is in
+      let b = ap (λ v. v.faces.capacity_of_cycles) is in
+      let m = i.holds in
+      omega arith
 
-    pub vertices_within : IsRoom vr vs → (a : FaceId) → length ((lists_of h).bare a) ≤ h.capacity_of_vertices
-    vertices_within i a = subst (λ (l : Lists). length (l.bare a) ≤ h.capacity_of_vertices) lists_are (subst (λ (v : RecordsView). length ((lists_in vs cs fs).bare a) ≤ v.capacity_of_vertices) is (named_short vertex_placing vs fs vertex_id vr a.0 i))
+  pub vertices_within : IsRoom store.vertex_room store.vertices → (a : FaceId) → length ((lists_of h).bare a) ≤ h.capacity_of_vertices
+  vertices_within i a = subst (λ (l : Lists). length (l.bare a) ≤ h.capacity_of_vertices) lists_are (subst (λ (v : RecordsView). length ((lists_in store.vertices store.cycles store.faces).bare a) ≤ v.capacity_of_vertices) is (named_short vertex_placing store.vertices store.faces vertex_id store.vertex_room a.0 i))
 
-    -- the names in the tables are the slabs' keys
-    pub cycle_keys : names (entries cs) ≡ names h.faces.tables.cycles
-    cycle_keys = sym (names_tabled cycle_record cs) ∙ ap (λ (v : RecordsView). names v.faces.tables.cycles) is
+  -- the names in the tables are the slabs' keys
+  pub cycle_keys : names (entries store.cycles) ≡ names h.faces.tables.cycles
+  cycle_keys = sym (names_tabled cycle_record store.cycles) ∙ ap (λ (v : RecordsView). names v.faces.tables.cycles) is
 
-    pub face_keys : names (entries fs) ≡ h.faces.tables.faces
-    face_keys = ap (λ (v : RecordsView). v.faces.tables.faces) is
+  pub face_keys : names (entries store.faces) ≡ h.faces.tables.faces
+  face_keys = ap (λ (v : RecordsView). v.faces.tables.faces) is
 
-    pub cycle_names : NamesAscend (names h.faces.tables.cycles)
-    cycle_names = subst (λ (v : RecordsView). NamesAscend (names v.faces.tables.cycles)) is (ascend-tabled cycle_record cs)
+  pub cycle_names : NamesAscend (names h.faces.tables.cycles)
+  cycle_names = subst (λ (v : RecordsView). NamesAscend (names v.faces.tables.cycles)) is (ascend-tabled cycle_record store.cycles)
 
-    pub face_names : NamesAscend h.faces.tables.faces
-    face_names = subst (λ (v : RecordsView). NamesAscend v.faces.tables.faces) is (subst NamesAscend (names_tabled (λ f. f) fs) (ascend-tabled (λ f. f) fs))
+  pub face_names : NamesAscend h.faces.tables.faces
+  face_names = subst (λ (v : RecordsView). NamesAscend v.faces.tables.faces) is (subst NamesAscend (names_tabled (λ f. f) store.faces) (ascend-tabled (λ f. f) store.faces))
 
-    pub cycle_of_names : NamesAscend (names h.faces.tables.cycle_of)
-    cycle_of_names = subst (λ (v : RecordsView). NamesAscend (names v.faces.tables.cycle_of)) is (ascend-tabled (λ (r : StoredDart). r.cycle) ds)
+  pub cycle_of_names : NamesAscend (names h.faces.tables.cycle_of)
+  cycle_of_names = subst (λ (v : RecordsView). NamesAscend (names v.faces.tables.cycle_of)) is (ascend-tabled (λ (r : StoredDart). r.cycle) store.darts)
 
-    pub bare_names : NamesAscend (names h.faces.tables.bare)
-    bare_names = subst (λ (v : RecordsView). NamesAscend (names v.faces.tables.bare)) is (bare_ascend vs)
+  pub bare_names : NamesAscend (names h.faces.tables.bare)
+  bare_names = subst (λ (v : RecordsView). NamesAscend (names v.faces.tables.bare)) is (bare_ascend store.vertices)

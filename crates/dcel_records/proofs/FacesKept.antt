@@ -1,19 +1,16 @@
 -- What writers of vertices and darts leave of cycles and faces.
-use Rattle.std.proofs.Common.{Bool, ◌≡◌, inl, inr, ℕ, ◌-◌, List, map, Option, Some, None, is_some, option_map, refl, sym, ap, ◌∙◌}
+use Rattle.std.proofs.Common.{◌≡◌, inl, inr, ℕ, ◌-◌, List, map, Option, Some, None, is_some, option_map, refl, sym, ap, ◌∙◌}
 use Rattle.std.proofs.lemmas.Bool.{cases_eq}
 use Rattle.slab.specs.Slab.{Slab, get, entries, slab_len, with_value, Updates}
 use Rattle.slab.proofs.SlabLemmas.{Updates-with_value}
 use Rattle.slab_laws.specs.declared.names.CycleId.{CycleId}
 use Rattle.slab_laws.specs.declared.names.DartId.{DartId}
-use Rattle.slab_laws.specs.FaceLists.{MovedView}
 use Rattle.slab_laws.specs.Tables.{names}
 use Rattle.slab_laws.specs.View.{cycle_id, vertex_id}
 use Rattle.arr_notes.specs.NamedRows.{put, del}
 use Rattle.chain_laws.specs.Rows.{tabled}
-use Rattle.dcel_records.specs.declared.ranks.RankKey.{RankKey}
-use Rattle.dcel_records.specs.declared.rows.StoredCycle.{StoredCycle}
+use Rattle.dcel_records.specs.declared.records.Records.TheInside.{Inside}
 use Rattle.dcel_records.specs.declared.rows.StoredDart.{StoredDart}
-use Rattle.dcel_records.specs.declared.rows.StoredFace.{StoredFace}
 use Rattle.dcel_records.specs.declared.rows.StoredVertex.{StoredVertex}
 use Rattle.dcel_records.specs.Given.{given}
 use Rattle.dcel_records.specs.Placing.{Placing, place_node, node_or, nodes, own, cycle_placing, vertex_placing}
@@ -65,26 +62,26 @@ column_more ds s t d m r q x y u w g e = column_written t d x y g e ∙ tabled_p
 pub column_less : (ds s t : Slab StoredDart) (d m : ℕ) (twin : DartId) → Updates ds s d None → Updates s t m None → m ≡ twin.0 → column t ≡ del twin.0 (del d (column ds))
 column_less ds s t d m twin u w e = tabled_del (λ z. z.cycle) s t m w ∙ ap (del m) (tabled_del (λ z. z.cycle) ds s d u) ∙ ap (λ n. del n (del d (column ds))) e
 
-module _ (vs : Slab StoredVertex) (ds : Slab StoredDart) (cs : Slab StoredCycle) (fs : Slab StoredFace) (mv : Option MovedView) (od : List RankKey) (vr cr : ℕ) (mp : Bool) (h : RecordsView) (is : records_view vs ds cs fs mv od vr cr mp ≡ h) (k : AreSoundFaces vs cs fs)
-    (ws : Slab StoredVertex) (same : (n : ℕ) → nodes vertex_placing ws n ≡ nodes vertex_placing vs n) where
-  pub faces_sound : AreSoundFaces ws cs fs
-  faces_sound = record { cycles = k.cycles; bare = chained_same vertex_placing vs fs k.bare ws fs (λ i n. same n i) (λ a. refl) (λ n a e s. s); unbounded = k.unbounded }
+module _ (store : Inside) (h : RecordsView) (is : records_view store ≡ h) (k : AreSoundFaces store.vertices store.cycles store.faces)
+    (ws : Slab StoredVertex) (same : (n : ℕ) → nodes vertex_placing ws n ≡ nodes vertex_placing store.vertices n) where
+  pub faces_sound : AreSoundFaces ws store.cycles store.faces
+  faces_sound = record { cycles = k.cycles; bare = chained_same vertex_placing store.vertices store.faces k.bare ws store.faces (λ i n. same n i) (λ a. refl) (λ n a e s. s); unbounded = k.unbounded }
 
-  rows_same : face_rows ws cs fs ≡ face_rows vs cs fs
-  rows_same = λ i. map (λ a. (a, record { cycles = map cycle_id (own cycle_placing cs fs a); bare = map vertex_id (own_same vertex_placing vs fs k.bare ws fs (λ j n. same n j) (λ b. refl) a i) })) (names (entries fs))
+  rows_same : face_rows ws store.cycles store.faces ≡ face_rows store.vertices store.cycles store.faces
+  rows_same = λ i. map (λ a. (a, record { cycles = map cycle_id (own cycle_placing store.cycles store.faces a); bare = map vertex_id (own_same vertex_placing store.vertices store.faces k.bare ws store.faces (λ j n. same n j) (λ b. refl) a i) })) (names (entries store.faces))
 
-  bare_table : somes (tabled bare_of ws) ≡ somes (tabled bare_of vs)
-  bare_table = bare_same vs ws (λ n. ap (option_map (λ x. x.key)) (same n))
+  bare_table : somes (tabled bare_of ws) ≡ somes (tabled bare_of store.vertices)
+  bare_table = bare_same store.vertices ws (λ n. ap (option_map (λ x. x.key)) (same n))
 
-  pub faces_column : (F : List (ℕ × CycleId) → List (ℕ × CycleId)) (es : Slab StoredDart) → column es ≡ F (column ds) → faces_view ws es cs fs mv cr ≡ with_column F h.faces
+  pub faces_column : (F : List (ℕ × CycleId) → List (ℕ × CycleId)) (es : Slab StoredDart) → column es ≡ F (column store.darts) → faces_view ws es store.cycles store.faces store.moved store.cycle_room ≡ with_column F h.faces
   faces_column F es e =
       (λ i. record {
-        tables = record { cycle_of = e i; bare = bare_table i; cycles = tabled cycle_record cs; faces = names (entries fs) };
+        tables = record { cycle_of = e i; bare = bare_table i; cycles = tabled cycle_record store.cycles; faces = names (entries store.faces) };
         rows = rows_same i;
-        darts = tabled (λ r. r.dart) cs;
-        spare_cycles = cr - slab_len cs;
-        spare_faces = fs.capacity - slab_len fs;
-        capacity_of_cycles = cr;
-        capacity_of_faces = fs.capacity;
-        moved = option_map moved_room mv;
+        darts = tabled (λ r. r.dart) store.cycles;
+        spare_cycles = store.cycle_room - slab_len store.cycles;
+        spare_faces = store.faces.capacity - slab_len store.faces;
+        capacity_of_cycles = store.cycle_room;
+        capacity_of_faces = store.faces.capacity;
+        moved = option_map moved_room store.moved;
       }) ∙ ap (with_column F) (ap faces_part is)

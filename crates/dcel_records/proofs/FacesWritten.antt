@@ -1,19 +1,16 @@
 -- Faces after one more, and after one fewer.
-use Rattle.std.proofs.Common.{Bool, ◌≡◌, ◌≢◌, inl, inr, ℕ, List, [], ◌∷◌, map, Option, Some, None, is_some, IsSome, option_map, refl, sym, ap, subst, ◌∙◌, Contains}
+use Rattle.std.proofs.Common.{◌≡◌, ◌≢◌, inl, inr, ℕ, List, [], ◌∷◌, map, Option, Some, None, is_some, IsSome, option_map, refl, sym, ap, subst, ◌∙◌, Contains}
 use Rattle.std.proofs.lemmas.Bool.{cases_eq, false≢true}
 use Rattle.slab.specs.Slab.{Slab, get, Updates}
 use Rattle.slab_laws.specs.declared.names.FaceId.{FaceId}
-use Rattle.slab_laws.specs.FaceLists.{Lists, MovedView, first_of}
+use Rattle.slab_laws.specs.FaceLists.{Lists, first_of}
 use Rattle.slab_laws.specs.View.{HasFace, face_id, cycle_id, vertex_id}
 use Rattle.arr_notes.specs.FaceWriters.{with_face, without_face}
 use Rattle.chain_laws.specs.Links.{first_or, key_at}
 use Rattle.chain_laws.proofs.Distinct.{nowhere}
 use Rattle.chain_laws.specs.Rows.{tabled}
-use Rattle.dcel_records.specs.declared.ranks.RankKey.{RankKey}
-use Rattle.dcel_records.specs.declared.rows.StoredCycle.{StoredCycle}
-use Rattle.dcel_records.specs.declared.rows.StoredDart.{StoredDart}
+use Rattle.dcel_records.specs.declared.records.Records.TheInside.{Inside}
 use Rattle.dcel_records.specs.declared.rows.StoredFace.{StoredFace}
-use Rattle.dcel_records.specs.declared.rows.StoredVertex.{StoredVertex}
 use Rattle.dcel_records.specs.Placing.{Placing, cycle_placing, vertex_placing, nodes, heads, own, AreChained}
 use Rattle.dcel_records.specs.RecordsView.{RecordsView, lists_of}
 use Rattle.dcel_records.specs.StoredRows.{cycle_record, bare_of, somes, dart_kept, tables_in, lists_in, records_view, AreSoundFaces}
@@ -45,56 +42,56 @@ module _ {R : Type 0} (g : Placing R) (rs : Slab R) (fs gs : Slab StoredFace) (k
   own_still : (j : ℕ) → own g rs gs j ≡ own g rs fs j
   own_still = own_same g rs fs kept rs gs refl firsts
 
-module _ (vs : Slab StoredVertex) (ds : Slab StoredDart) (cs : Slab StoredCycle) (fs : Slab StoredFace) (mv : Option MovedView) (od : List RankKey) (vr cr : ℕ) (mp : Bool) (h : RecordsView) (is : records_view vs ds cs fs mv od vr cr mp ≡ h) (k : AreSoundFaces vs cs fs) where
-  pub face_new : (a : FaceId) → get fs a.0 ≡ None → ¬ HasFace h.faces.tables a
-  face_new a e s = false≢true (sym (ap is_some e) ∙ face_key vs ds cs fs mv od vr cr mp h is a s)
+module _ (store : Inside) (h : RecordsView) (is : records_view store ≡ h) (k : AreSoundFaces store.vertices store.cycles store.faces) where
+  pub face_new : (a : FaceId) → get store.faces a.0 ≡ None → ¬ HasFace h.faces.tables a
+  face_new a e s = false≢true (sym (ap is_some e) ∙ face_key store h is a s)
 
   -- ---- a face more
-  module _ (gs : Slab StoredFace) (a : ℕ) (r : StoredFace) (vacant : get fs a ≡ None) (u : Updates fs gs a (Some r)) (no_cycle : r.first_cycle ≡ None) (no_bare : r.first_bare ≡ None) where
-    pub face_more_sound : AreSoundFaces vs cs gs
+  module _ (gs : Slab StoredFace) (a : ℕ) (r : StoredFace) (vacant : get store.faces a ≡ None) (u : Updates store.faces gs a (Some r)) (no_cycle : r.first_cycle ≡ None) (no_bare : r.first_bare ≡ None) where
+    pub face_more_sound : AreSoundFaces store.vertices store.cycles gs
     face_more_sound = record {
-      cycles = chained_still cycle_placing cs fs gs k.cycles a (Some r) u (own_nowhere cycle_placing cs fs a vacant) no_cycle;
-      bare = chained_still vertex_placing vs fs gs k.bare a (Some r) u (own_nowhere vertex_placing vs fs a vacant) no_bare;
+      cycles = chained_still cycle_placing store.cycles store.faces gs k.cycles a (Some r) u (own_nowhere cycle_placing store.cycles store.faces a vacant) no_cycle;
+      bare = chained_still vertex_placing store.vertices store.faces gs k.bare a (Some r) u (own_nowhere vertex_placing store.vertices store.faces a vacant) no_bare;
       unbounded = elim (cases_eq 0 a) [
         | inl q ↦ ap (λ n. is_some (get gs n)) q ∙ ap is_some u.changed
         | inr ne ↦ ap is_some (u.others 0 ne) ∙ k.unbounded
       ];
     }
 
-    pub face_more_tables : tables_in vs ds cs gs ≡ with_face (face_id a) h.faces.tables
-    face_more_tables = tables_after vs ds cs fs mv od vr cr mp h is vs ds cs gs (with_face (face_id a)) (λ i. record { cycle_of = tabled (λ r. r.cycle) ds; bare = somes (tabled bare_of vs); cycles = tabled cycle_record cs; faces = names_put fs gs a r u i })
+    pub face_more_tables : tables_in store.vertices store.darts store.cycles gs ≡ with_face (face_id a) h.faces.tables
+    face_more_tables = tables_after store h is store.vertices store.darts store.cycles gs (with_face (face_id a)) (λ i. record { cycle_of = tabled (λ r. r.cycle) store.darts; bare = somes (tabled bare_of store.vertices); cycles = tabled cycle_record store.cycles; faces = names_put store.faces gs a r u i })
 
-    pub face_more_lists : lists_in vs cs gs ≡ lists_in vs cs fs
+    pub face_more_lists : lists_in store.vertices store.cycles gs ≡ lists_in store.vertices store.cycles store.faces
     face_more_lists = λ i. record {
-      cycles = λ b. map cycle_id (own_still cycle_placing cs fs gs k.cycles a (Some r) u (own_nowhere cycle_placing cs fs a vacant) no_cycle b.0 i);
-      bare = λ b. map vertex_id (own_still vertex_placing vs fs gs k.bare a (Some r) u (own_nowhere vertex_placing vs fs a vacant) no_bare b.0 i);
-      dart_on = λ c. dart_kept (get cs c.0);
+      cycles = λ b. map cycle_id (own_still cycle_placing store.cycles store.faces gs k.cycles a (Some r) u (own_nowhere cycle_placing store.cycles store.faces a vacant) no_cycle b.0 i);
+      bare = λ b. map vertex_id (own_still vertex_placing store.vertices store.faces gs k.bare a (Some r) u (own_nowhere vertex_placing store.vertices store.faces a vacant) no_bare b.0 i);
+      dart_on = λ c. dart_kept (get store.cycles c.0);
     }
 
   -- ---- a face fewer
-  module _ (gs : Slab StoredFace) (a : FaceId) (u : Updates fs gs a.0 None) (no_cycles : (lists_of h).cycles a ≡ []) (no_bares : (lists_of h).bare a ≡ []) where
-    lists_are : lists_in vs cs fs ≡ lists_of h
-    lists_are = sym (lists_seen vs cs fs ds mv cr) ∙ ap lists_of is
+  module _ (gs : Slab StoredFace) (a : FaceId) (u : Updates store.faces gs a.0 None) (no_cycles : (lists_of h).cycles a ≡ []) (no_bares : (lists_of h).bare a ≡ []) where
+    lists_are : lists_in store.vertices store.cycles store.faces ≡ lists_of h
+    lists_are = sym (lists_seen store.vertices store.cycles store.faces store.darts store.moved store.cycle_room) ∙ ap lists_of is
 
-    no_own_cycle : own cycle_placing cs fs a.0 ≡ []
+    no_own_cycle : own cycle_placing store.cycles store.faces a.0 ≡ []
     no_own_cycle = none_mapped cycle_id _ (ap (λ (l : Lists). l.cycles a) lists_are ∙ no_cycles)
 
-    no_own_bare : own vertex_placing vs fs a.0 ≡ []
+    no_own_bare : own vertex_placing store.vertices store.faces a.0 ≡ []
     no_own_bare = none_mapped vertex_id _ (ap (λ (l : Lists). l.bare a) lists_are ∙ no_bares)
 
-    pub face_less_sound : a ≢ face_id 0 → AreSoundFaces vs cs gs
+    pub face_less_sound : a ≢ face_id 0 → AreSoundFaces store.vertices store.cycles gs
     face_less_sound n = record {
-      cycles = chained_still cycle_placing cs fs gs k.cycles a.0 None u no_own_cycle refl;
-      bare = chained_still vertex_placing vs fs gs k.bare a.0 None u no_own_bare refl;
+      cycles = chained_still cycle_placing store.cycles store.faces gs k.cycles a.0 None u no_own_cycle refl;
+      bare = chained_still vertex_placing store.vertices store.faces gs k.bare a.0 None u no_own_bare refl;
       unbounded = ap is_some (u.others 0 (λ e. n (sym (ap face_id e)))) ∙ k.unbounded;
     }
 
-    pub face_less_tables : tables_in vs ds cs gs ≡ without_face a h.faces.tables
-    face_less_tables = tables_after vs ds cs fs mv od vr cr mp h is vs ds cs gs (without_face a) (λ i. record { cycle_of = tabled (λ r. r.cycle) ds; bare = somes (tabled bare_of vs); cycles = tabled cycle_record cs; faces = names_del fs gs a.0 u i })
+    pub face_less_tables : tables_in store.vertices store.darts store.cycles gs ≡ without_face a h.faces.tables
+    face_less_tables = tables_after store h is store.vertices store.darts store.cycles gs (without_face a) (λ i. record { cycle_of = tabled (λ r. r.cycle) store.darts; bare = somes (tabled bare_of store.vertices); cycles = tabled cycle_record store.cycles; faces = names_del store.faces gs a.0 u i })
 
-    pub face_less_lists : lists_in vs cs gs ≡ lists_in vs cs fs
+    pub face_less_lists : lists_in store.vertices store.cycles gs ≡ lists_in store.vertices store.cycles store.faces
     face_less_lists = λ i. record {
-      cycles = λ b. map cycle_id (own_still cycle_placing cs fs gs k.cycles a.0 None u no_own_cycle refl b.0 i);
-      bare = λ b. map vertex_id (own_still vertex_placing vs fs gs k.bare a.0 None u no_own_bare refl b.0 i);
-      dart_on = λ c. dart_kept (get cs c.0);
+      cycles = λ b. map cycle_id (own_still cycle_placing store.cycles store.faces gs k.cycles a.0 None u no_own_cycle refl b.0 i);
+      bare = λ b. map vertex_id (own_still vertex_placing store.vertices store.faces gs k.bare a.0 None u no_own_bare refl b.0 i);
+      dart_on = λ c. dart_kept (get store.cycles c.0);
     }

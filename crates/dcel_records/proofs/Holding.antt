@@ -1,8 +1,7 @@
 -- From the two slabs to what a caller sees of them.
-use Rattle.std.proofs.Common.{Bool, ◌≡◌, ℕ, ◌-◌, Option, Some, None, is_some, IsSome, option_map, refl, sym, ap, subst, ◌∙◌, List}
+use Rattle.std.proofs.Common.{◌≡◌, ℕ, ◌-◌, Option, Some, None, is_some, IsSome, option_map, refl, sym, ap, subst, ◌∙◌, List}
 use Rattle.std.proofs.lemmas.Bool.{false≢true}
 use Rattle.slab.specs.Slab.{Slab, get, slab_len}
-use Rattle.slab_laws.specs.FaceLists.{MovedView}
 use Rattle.slab_laws.specs.declared.names.DartId.{DartId}
 use Rattle.slab_laws.specs.declared.names.VertexId.{VertexId}
 use Rattle.slab_laws.specs.Sound.{IsTwinned}
@@ -10,11 +9,9 @@ use Rattle.slab_laws.specs.Tables.{row_at, names, NamesAscend}
 use Rattle.slab_laws.specs.View.{VertexRecord, DartRecord, HasVertex, HasDart, IsOutOf, point_or, pin_or, source_or, twin_or, next_or, line_or, point_in, pinned_in, source_in, twin_in, next_in, line_in, target_in}
 use Rattle.chain_laws.specs.Rows.{tabled}
 use Rattle.chain_laws.proofs.Tabled.{row-tabled, ascend-tabled}
-use Rattle.dcel_records.specs.declared.ranks.RankKey.{RankKey}
+use Rattle.dcel_records.specs.declared.records.Records.TheInside.{Inside}
 use Rattle.dcel_records.specs.declared.rows.StoredVertex.{StoredVertex}
-use Rattle.dcel_records.specs.declared.rows.StoredCycle.{StoredCycle}
 use Rattle.dcel_records.specs.declared.rows.StoredDart.{StoredDart}
-use Rattle.dcel_records.specs.declared.rows.StoredFace.{StoredFace}
 use Rattle.dcel_records.specs.RecordsView.{GraphView, RecordsView, point_found, ends_found}
 use Rattle.dcel_records.specs.StoredRows.{vertex_of, dart_of, graph_in, graph_view, graph_of_slabs, records_view, out_or, out_at, AreSoundRows}
 use Rattle.dcel_records.specs.Outs.{IsOut}
@@ -124,5 +121,5 @@ module _ (vs : Slab StoredVertex) (ds : Slab StoredDart) (h : GraphView) (is : g
   dart_names = subst (λ (rs : List (ℕ × DartRecord)). NamesAscend (names rs)) darts_are (ascend-tabled dart_of ds)
 
 -- the graph of the records, from all their slabs
-pub graph_seen : (vs : Slab StoredVertex) (ds : Slab StoredDart) (cs : Slab StoredCycle) (fs : Slab StoredFace) (mv : Option MovedView) (od : List RankKey) (vr cr : ℕ) (mp : Bool) (h : RecordsView) → records_view vs ds cs fs mv od vr cr mp ≡ h → graph_view vs ds ≡ graph_of_slabs vs ds h
-graph_seen vs ds cs fs mv od vr cr mp h is = λ i. record { graph = (is i).graph; spare_vertices = vs.capacity - slab_len vs; spare_darts = ds.capacity - slab_len ds; capacity_of_vertices = vs.capacity; capacity_of_darts = ds.capacity }
+pub graph_seen : (store : Inside) (h : RecordsView) → records_view store ≡ h → graph_view store.vertices store.darts ≡ graph_of_slabs store.vertices store.darts h
+graph_seen store h is = λ i. record { graph = (is i).graph; spare_vertices = store.vertices.capacity - slab_len store.vertices; spare_darts = store.darts.capacity - slab_len store.darts; capacity_of_vertices = store.vertices.capacity; capacity_of_darts = store.darts.capacity }

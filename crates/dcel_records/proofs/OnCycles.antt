@@ -1,5 +1,5 @@
 -- The cycle of each dart has a row, whose box the dart is in: what keeps it, and what it tells a caller.
-use Rattle.std.proofs.Common.{Bool, ◌≡◌, ◌≢◌, inl, inr, ℕ, [], slice_index_or, List, Option, Some, None, is_some, IsSome, option_map, refl, sym, ap, subst, ◌∙◌}
+use Rattle.std.proofs.Common.{◌≡◌, ◌≢◌, inl, inr, ℕ, [], slice_index_or, Option, Some, None, is_some, IsSome, option_map, refl, sym, ap, subst, ◌∙◌}
 use Rattle.std.proofs.lemmas.Bool.{cases_eq, false≢true}
 use Rattle.exact_plane.specs.WholeParts.{whole_parts}
 use Rattle.exact_plane.specs.declared.whole_parts.BoundingBox.{BoundingBox}
@@ -9,15 +9,12 @@ use Rattle.slab.specs.Slab.{Slab, get, with_value, ContainsKey, Updates}
 use Rattle.slab.proofs.SlabLemmas.{Updates-with_value}
 use Rattle.slab_laws.specs.declared.names.CycleId.{CycleId}
 use Rattle.slab_laws.specs.declared.names.DartId.{DartId}
-use Rattle.slab_laws.specs.FaceLists.{MovedView}
 use Rattle.slab_laws.specs.Tables.{row_at}
 use Rattle.slab_laws.specs.View.{Faces, HasDart, HasCycle, cycle_in, cycle_or, point_in, source_in}
 use Rattle.chain_laws.proofs.Tabled.{row-tabled}
-use Rattle.dcel_records.specs.declared.ranks.RankKey.{RankKey}
+use Rattle.dcel_records.specs.declared.records.Records.TheInside.{Inside}
 use Rattle.dcel_records.specs.declared.rows.StoredCycle.{StoredCycle}
 use Rattle.dcel_records.specs.declared.rows.StoredDart.{StoredDart}
-use Rattle.dcel_records.specs.declared.rows.StoredFace.{StoredFace}
-use Rattle.dcel_records.specs.declared.rows.StoredVertex.{StoredVertex}
 use Rattle.dcel_records.specs.Areas.{Covers, HasParts}
 use Rattle.dcel_records.specs.RecordsView.{RecordsView, tables_of}
 use Rattle.dcel_records.specs.StoredRows.{dart_of, cycle_record, records_view, AreMarked, AreOnCycles}
@@ -106,30 +103,30 @@ pub on_none : (ds : Slab StoredDart) (cs : Slab StoredCycle) → ds.slots ≡ []
 on_none ds cs a n r e = let z : None ≡ Some r = ap (λ s. slice_index_or s n None) (sym a) ∙ e in absurd (cc)
 
 -- ---- what a caller sees
-module _ (vs : Slab StoredVertex) (ds : Slab StoredDart) (cs : Slab StoredCycle) (fs : Slab StoredFace) (mv : Option MovedView) (od : List RankKey) (vr cr : ℕ) (mp : Bool) (h : RecordsView) (is : records_view vs ds cs fs mv od vr cr mp ≡ h) where
-  cycle_has : (c : CycleId) → ContainsKey cs c.0 → HasCycle h.faces.tables c
-  cycle_has c k = subst (λ (t : Faces). HasCycle t c) (ap tables_of is) (ap is_some (row-tabled cycle_record cs c.0) ∙ some_mapped cycle_record (get cs c.0) ∙ k)
+module _ (store : Inside) (h : RecordsView) (is : records_view store ≡ h) where
+  cycle_has : (c : CycleId) → ContainsKey store.cycles c.0 → HasCycle h.faces.tables c
+  cycle_has c k = subst (λ (t : Faces). HasCycle t c) (ap tables_of is) (ap is_some (row-tabled cycle_record store.cycles c.0) ∙ some_mapped cycle_record (get store.cycles c.0) ∙ k)
 
-  pub row_cycle_has : AreOnCycles ds cs → (d : DartId) (r : StoredDart) → get ds d.0 ≡ Some r → HasCycle h.faces.tables r.cycle
-  row_cycle_has k d r e = cycle_has r.cycle (parts_key (get cs r.cycle.0) r.parts (k d.0 r e))
+  pub row_cycle_has : AreOnCycles store.darts store.cycles → (d : DartId) (r : StoredDart) → get store.darts d.0 ≡ Some r → HasCycle h.faces.tables r.cycle
+  row_cycle_has k d r e = cycle_has r.cycle (parts_key (get store.cycles r.cycle.0) r.parts (k d.0 r e))
 
-  cycle_seen : (d : DartId) (r : StoredDart) → get ds d.0 ≡ Some r → cycle_in h.faces.tables d ≡ r.cycle
-  cycle_seen d r e = sym (ap cycle_or (cycle_read vs ds cs fs mv od vr cr mp h is d (Some r) e))
+  cycle_seen : (d : DartId) (r : StoredDart) → get store.darts d.0 ≡ Some r → cycle_in h.faces.tables d ≡ r.cycle
+  cycle_seen d r e = sym (ap cycle_or (cycle_read store h is d (Some r) e))
 
   -- no dart is on a cycle, if no row is
-  pub none_on : (c : CycleId) → ((d : DartId) → HasDart h.graph d → cycle_in h.faces.tables d ≢ c) → (n : ℕ) (r : StoredDart) → get ds n ≡ Some r → r.cycle.0 ≢ c.0
+  pub none_on : (c : CycleId) → ((d : DartId) → HasDart h.graph d → cycle_in h.faces.tables d ≢ c) → (n : ℕ) (r : StoredDart) → get store.darts n ≡ Some r → r.cycle.0 ≢ c.0
   none_on c off n r e q = off (record { 0 = n }) has (cycle_seen (record { 0 = n }) r e ∙ (λ i. record { 0 = q i }))
     where
       has : HasDart h.graph (record { 0 = n })
-      has = sym (ap (λ v. is_some (row_at v.graph.darts n)) is) ∙ ap is_some (row-tabled dart_of ds n) ∙ ap (λ o. is_some (option_map dart_of o)) e
+      has = sym (ap (λ v. is_some (row_at v.graph.darts n)) is) ∙ ap is_some (row-tabled dart_of store.darts n) ∙ ap (λ o. is_some (option_map dart_of o)) e
 
   -- the box of a cycle has the points of its darts
-  pub area_covers : AreOnCycles ds cs → AreMarked vs ds → (c : CycleId) (q : StoredCycle) → get cs c.0 ≡ Some q → (d : DartId) → HasDart h.graph d → cycle_in h.faces.tables d ≡ c → Covers q.area (whole_parts (point_in h.graph (source_in h.graph d)))
-  area_covers k marked c q g d has on = by (get ds d.0) refl (dart_key vs ds _ (graph_seen vs ds cs fs mv od vr cr mp h is) d has)
+  pub area_covers : AreOnCycles store.darts store.cycles → AreMarked store.vertices store.darts → (c : CycleId) (q : StoredCycle) → get store.cycles c.0 ≡ Some q → (d : DartId) → HasDart h.graph d → cycle_in h.faces.tables d ≡ c → Covers q.area (whole_parts (point_in h.graph (source_in h.graph d)))
+  area_covers k marked c q g d has on = by (get store.darts d.0) refl (dart_key store.vertices store.darts _ (graph_seen store h is) d has)
     where
-      by : (o : Option StoredDart) → get ds d.0 ≡ o → IsSome o → Covers q.area (whole_parts (point_in h.graph (source_in h.graph d)))
+      by : (o : Option StoredDart) → get store.darts d.0 ≡ o → IsSome o → Covers q.area (whole_parts (point_in h.graph (source_in h.graph d)))
       by None e s = absurd (false≢true s)
       by (Some r) e s =
-          let i : get cs r.cycle.0 ≡ Some q = ap (λ (x : CycleId). get cs x.0) (sym (cycle_seen d r e) ∙ on) ∙ g in
+          let i : get store.cycles r.cycle.0 ≡ Some q = ap (λ (x : CycleId). get store.cycles x.0) (sym (cycle_seen d r e) ∙ on) ∙ g in
           let j : HasParts (Some q) r.parts = subst (λ (o : Option StoredCycle). HasParts o r.parts) i (k d.0 r e) in
-          subst (λ (p : WholeParts). Covers q.area p) (source_marked vs ds _ (graph_seen vs ds cs fs mv od vr cr mp h is) marked d r e) j
+          subst (λ (p : WholeParts). Covers q.area p) (source_marked store.vertices store.darts _ (graph_seen store h is) marked d r e) j

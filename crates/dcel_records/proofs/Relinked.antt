@@ -7,20 +7,20 @@ use Rattle.plane_graphs.proofs.Lists.{some_mapped}
 use Rattle.slab.specs.Slab.{Slab, get, entries, ContainsKey, Updates}
 use Rattle.slab.proofs.SlabLemmas.{Contains-cons_cases}
 use Rattle.slab_laws.specs.declared.names.FaceId.{FaceId}
-use Rattle.slab_laws.specs.FaceLists.{Lists, MovedView}
+use Rattle.slab_laws.specs.FaceLists.{Lists}
 use Rattle.slab_laws.specs.Tables.{row_at, names}
 use Rattle.slab_laws.specs.View.{Faces, HasFace}
 use Rattle.chain_laws.specs.Links.{Node, without}
 use Rattle.chain_laws.proofs.Distinct.{nowhere}
 use Rattle.chain_laws.proofs.Tabled.{row-tabled}
-use Rattle.dcel_records.specs.declared.ranks.RankKey.{RankKey}
+use Rattle.dcel_records.specs.declared.records.Records.TheInside.{Inside}
 use Rattle.dcel_records.specs.declared.rows.StoredCycle.{StoredCycle}
 use Rattle.dcel_records.specs.declared.rows.StoredDart.{StoredDart}
 use Rattle.dcel_records.specs.declared.rows.StoredFace.{StoredFace}
 use Rattle.dcel_records.specs.declared.rows.StoredVertex.{StoredVertex}
 use Rattle.dcel_records.specs.Placing.{Placing, node_or, nodes, all_but}
-use Rattle.dcel_records.specs.RecordsView.{RecordsView, tables_of, lists_of}
-use Rattle.dcel_records.specs.StoredRows.{tables_in, lists_in, records_view}
+use Rattle.dcel_records.specs.RecordsView.{RecordsView, tables_of, lists_of, lists_in_view}
+use Rattle.dcel_records.specs.StoredRows.{tables_in, lists_in, faces_view, records_view}
 use Rattle.dcel_records.proofs.After.{names_tabled}
 use Rattle.dcel_records.proofs.FaceTables.{lists_seen}
 
@@ -78,12 +78,12 @@ nodes_left g ds es c o none u = λ i n. at n i
     ]
 
 -- ---- from slabs to what a caller sees
-module _ (vs : Slab StoredVertex) (ds : Slab StoredDart) (cs : Slab StoredCycle) (fs : Slab StoredFace) (mv : Option MovedView) (od : List RankKey) (vr cr : ℕ) (mp : Bool) (h : RecordsView) (is : records_view vs ds cs fs mv od vr cr mp ≡ h) where
-  pub tables_after : (ws : Slab StoredVertex) (bs : Slab StoredDart) (es : Slab StoredCycle) (gs : Slab StoredFace) (T : Faces → Faces) → tables_in ws bs es gs ≡ T (tables_in vs ds cs fs) → tables_in ws bs es gs ≡ T h.faces.tables
+module _ (store : Inside) (h : RecordsView) (is : records_view store ≡ h) where
+  pub tables_after : (ws : Slab StoredVertex) (bs : Slab StoredDart) (es : Slab StoredCycle) (gs : Slab StoredFace) (T : Faces → Faces) → tables_in ws bs es gs ≡ T (tables_in store.vertices store.darts store.cycles store.faces) → tables_in ws bs es gs ≡ T h.faces.tables
   tables_after ws bs es gs T e = e ∙ ap T (ap tables_of is)
 
-  pub lists_after : (ws : Slab StoredVertex) (bs : Slab StoredDart) (es : Slab StoredCycle) (gs : Slab StoredFace) (mv' : Option MovedView) (od' : List RankKey) (vr' cr' : ℕ) (L : Lists → Lists) → lists_in ws es gs ≡ L (lists_in vs cs fs) → lists_of (records_view ws bs es gs mv' od' vr' cr' mp) ≡ L (lists_of h)
-  lists_after ws bs es gs mv' od' vr' cr' L e = lists_seen ws es gs bs mv' cr' ∙ e ∙ ap L (sym (lists_seen vs cs fs ds mv cr) ∙ ap lists_of is)
+  pub lists_after : (ws : Slab StoredVertex) (es : Slab StoredCycle) (gs : Slab StoredFace) (L : Lists → Lists) → lists_in ws es gs ≡ L (lists_in store.vertices store.cycles store.faces) → lists_in_view (faces_view ws store.darts es gs store.moved store.cycle_room) ≡ L (lists_of h)
+  lists_after ws es gs L e = lists_seen ws es gs store.darts store.moved store.cycle_room ∙ e ∙ ap L (sym (lists_seen store.vertices store.cycles store.faces store.darts store.moved store.cycle_room) ∙ ap lists_of is)
 
-  pub face_key : (a : FaceId) → HasFace h.faces.tables a → ContainsKey fs a.0
-  face_key a c = named_key fs a.0 (subst (λ (t : Faces). Contains t.faces a.0) (sym (ap tables_of is)) c)
+  pub face_key : (a : FaceId) → HasFace h.faces.tables a → ContainsKey store.faces a.0
+  face_key a c = named_key store.faces a.0 (subst (λ (t : Faces). Contains t.faces a.0) (sym (ap tables_of is)) c)

@@ -1,15 +1,12 @@
 -- What is there for the writers that take a dart away or move it.
-use Rattle.std.proofs.Common.{Bool, ◌≡◌, ◌≢◌, ℕ, ◌+◌, ◌≤◌, arith, length, List, Option, Some, None, is_some, IsSome, inl, inr, refl, sym, ap, subst, ◌∙◌}
+use Rattle.std.proofs.Common.{◌≡◌, ◌≢◌, ℕ, ◌+◌, ◌≤◌, arith, length, Option, Some, None, is_some, IsSome, inl, inr, refl, sym, ap, subst, ◌∙◌}
 use Rattle.std.proofs.lemmas.Bool.{cases_eq}
 use Rattle.slab.specs.Slab.{Slab, get, slab_len, with_value, Updates}
 use Rattle.slab.proofs.SlabLemmas.{Updates-with_value}
 use Rattle.slab_laws.specs.declared.names.DartId.{DartId}
 use Rattle.slab_laws.specs.View.{HasDart, target_in}
-use Rattle.slab_laws.specs.FaceLists.{MovedView}
 use Rattle.chain_laws.proofs.Tabled.{length-tabled}
-use Rattle.dcel_records.specs.declared.ranks.RankKey.{RankKey}
-use Rattle.dcel_records.specs.declared.rows.StoredCycle.{StoredCycle}
-use Rattle.dcel_records.specs.declared.rows.StoredFace.{StoredFace}
+use Rattle.dcel_records.specs.declared.records.Records.TheInside.{Inside}
 use Rattle.dcel_records.specs.declared.rows.StoredVertex.{StoredVertex}
 use Rattle.dcel_records.specs.declared.rows.StoredDart.{StoredDart}
 use Rattle.dcel_records.specs.RecordsView.{GraphView, RecordsView, IsSpare}
@@ -63,10 +60,10 @@ pub len_out_twice : (s : Slab StoredVertex) (u v : ℕ) (a b : Option DartId) (x
 len_out_twice s u v a b x y f g = len_written (with_value s u (row_out a x)) v y (row_out b y) g ∙ len_written s u x (row_out a x) f
 
 -- two darts away, and two vertices written
-module _ (vs : Slab StoredVertex) (ds : Slab StoredDart) (cs : Slab StoredCycle) (fs : Slab StoredFace) (mv : Option MovedView) (od : List RankKey) (vr cr : ℕ) (mp : Bool) (h : RecordsView) (is : records_view vs ds cs fs mv od vr cr mp ≡ h) where
-  pub less_spare : (s t : Slab StoredDart) (u v : ℕ) (a b : Option DartId) (x y : StoredVertex) → get vs u ≡ Some x → get (with_value vs u (row_out a x)) v ≡ Some y → slab_len s + 1 ≡ slab_len ds → slab_len s + 1 ≤ s.capacity → s.capacity ≡ ds.capacity → slab_len t + 1 ≡ slab_len s → t.capacity ≡ s.capacity → IsSpare h (records_view (with_value (with_value vs u (row_out a x)) v (row_out b y)) t cs fs mv od vr cr mp) 0 2
+module _ (store : Inside) (h : RecordsView) (is : records_view store ≡ h) where
+  pub less_spare : (s t : Slab StoredDart) (u v : ℕ) (a b : Option DartId) (x y : StoredVertex) → get store.vertices u ≡ Some x → get (with_value store.vertices u (row_out a x)) v ≡ Some y → slab_len s + 1 ≡ slab_len store.darts → slab_len s + 1 ≤ s.capacity → s.capacity ≡ store.darts.capacity → slab_len t + 1 ≡ slab_len s → t.capacity ≡ s.capacity → IsSpare h (records_view (record store { vertices = with_value (with_value store.vertices u (row_out a x)) v (row_out b y); darts = t })) 0 2
   less_spare s t u v a b x y f g l room sm m tm =
-      let e = len_out_twice vs u v a b x y f g in
+      let e = len_out_twice store.vertices u v a b x y f g in
       let z = ap (λ k. k.spare_vertices) is in
       let w = ap (λ k. k.spare_darts) is in
       let p = ap (λ k. k.capacity_of_vertices) is in

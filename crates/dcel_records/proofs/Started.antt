@@ -1,5 +1,5 @@
 -- The records of nothing but the unbounded face, and slabs that keep all that they hold.
-use Rattle.std.proofs.Common.{◌≡◌, true, inl, inr, ℕ, [], ◌∷◌, map, slice_index_or, List, Option, Some, None, is_some, option_map, refl, sym, ap, subst, ◌∙◌, arith}
+use Rattle.std.proofs.Common.{◌≡◌, inl, inr, ℕ, [], ◌∷◌, map, slice_index_or, Option, Some, None, is_some, option_map, refl, sym, ap, subst, ◌∙◌, arith}
 use Rattle.std.proofs.lemmas.Bool.{cases_eq}
 use Rattle.slab.specs.Slab.{Slab, get, entries, Updates}
 use Rattle.slab_laws.specs.FaceLists.{MovedView}
@@ -9,15 +9,14 @@ use Rattle.chain_laws.specs.Links.{first_or}
 use Rattle.arr_notes.specs.FaceWriters.{put_name}
 use Rattle.chain_laws.specs.Rows.{tabled}
 use Rattle.chain_laws.proofs.Tabled.{tabled_empty}
-use Rattle.dcel_records.specs.declared.ranks.RankKey.{RankKey}
 use Rattle.dcel_records.specs.declared.rows.StoredCycle.{StoredCycle}
 use Rattle.dcel_records.specs.declared.rows.StoredDart.{StoredDart}
 use Rattle.dcel_records.specs.declared.rows.StoredFace.{StoredFace}
 use Rattle.dcel_records.specs.declared.rows.StoredVertex.{StoredVertex}
 use Rattle.dcel_records.specs.ListChanges.{lone_face, nothing_listed}
 use Rattle.dcel_records.specs.Placing.{cycle_placing, vertex_placing}
-use Rattle.dcel_records.specs.RecordsView.{lists_of}
-use Rattle.dcel_records.specs.StoredRows.{cycle_record, bare_of, somes, dart_kept, tables_in, records_view, AreReady, AreReadyWhere, AreSoundFaces}
+use Rattle.dcel_records.specs.RecordsView.{lists_in_view}
+use Rattle.dcel_records.specs.StoredRows.{cycle_record, bare_of, somes, dart_kept, tables_in, faces_view, AreReady, AreReadyWhere, AreSoundFaces}
 use Rattle.dcel_records.proofs.Chained.{chained_empty, own_first}
 use Rattle.dcel_records.proofs.FaceTables.{no_somes, names_put, lists_seen}
 use Rattle.dcel_records.proofs.After.{names_tabled}
@@ -55,8 +54,8 @@ module _ (vs : Slab StoredVertex) (ds : Slab StoredDart) (cs : Slab StoredCycle)
       faces : names (entries gs) ≡ 0 ∷ []
       faces = names_put fs gs k r put ∙ ap (put_name k) (no_names fs e) ∙ ap (λ n. put_name n []) z ∙ first_name
 
-  pub lone_lists : (mv : Option MovedView) (od : List RankKey) (vr cr : ℕ) → lists_of (records_view vs ds cs gs mv od vr cr true) ≡ nothing_listed
-  lone_lists mv od vr cr = lists_seen vs cs gs ds mv cr ∙ (λ i. record { cycles = λ x. map cycle_id (own_first cycle_placing cs gs x.0 (firsts (λ y. y.first_cycle) no_cycle x.0) i); bare = λ x. map vertex_id (own_first vertex_placing vs gs x.0 (firsts (λ y. y.first_bare) no_bare x.0) i); dart_on = λ c. dart_kept (vacant_by cs d c.0 i) })
+  pub lone_lists : (mv : Option MovedView) (cr : ℕ) → lists_in_view (faces_view vs ds cs gs mv cr) ≡ nothing_listed
+  lone_lists mv cr = lists_seen vs cs gs ds mv cr ∙ (λ i. record { cycles = λ x. map cycle_id (own_first cycle_placing cs gs x.0 (firsts (λ y. y.first_cycle) no_cycle x.0) i); bare = λ x. map vertex_id (own_first vertex_placing vs gs x.0 (firsts (λ y. y.first_bare) no_bare x.0) i); dart_on = λ c. dart_kept (vacant_by cs d c.0 i) })
 
 -- lists of what moves, just made
 pub lists_ready : (x : MovedView) → x.cycles ≡ [] → x.vertices ≡ [] → AreReadyWhere (Some x) 0 0

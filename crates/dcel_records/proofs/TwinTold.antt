@@ -1,18 +1,16 @@
 -- A dart that is told other whole parts of the point that it reaches: a caller sees what was there.
-use Rattle.std.proofs.Common.{Bool, ◌≡◌, inl, inr, ℕ, ◌-◌, List, Option, Some, None, option_map, refl, sym, ap, subst, ◌∙◌}
+use Rattle.std.proofs.Common.{◌≡◌, inl, inr, ℕ, ◌-◌, Option, Some, None, option_map, refl, sym, ap, subst, ◌∙◌}
 use Rattle.std.proofs.lemmas.Bool.{cases_eq}
 use Rattle.exact_plane.specs.declared.whole_parts.WholeParts.{WholeParts}
 use Rattle.slab.specs.Slab.{Slab, get, entries, slab_len, Updates}
-use Rattle.slab_laws.specs.FaceLists.{MovedView}
 use Rattle.slab_laws.specs.Sound.{IsTwinned}
 use Rattle.slab_laws.specs.Tables.{names}
 use Rattle.arr_notes.proofs.RowLaws.{one_table}
 use Rattle.chain_laws.specs.Rows.{tabled}
 use Rattle.chain_laws.proofs.Tabled.{row-tabled, ascend-tabled}
-use Rattle.dcel_records.specs.declared.ranks.RankKey.{RankKey}
+use Rattle.dcel_records.specs.declared.records.Records.TheInside.{Inside}
 use Rattle.dcel_records.specs.declared.rows.StoredCycle.{StoredCycle}
 use Rattle.dcel_records.specs.declared.rows.StoredDart.{StoredDart}
-use Rattle.dcel_records.specs.declared.rows.StoredFace.{StoredFace}
 use Rattle.dcel_records.specs.declared.rows.StoredVertex.{StoredVertex}
 use Rattle.dcel_records.specs.declared.vertex_map.VertexMap.{VertexMap}
 use Rattle.dcel_records.specs.Areas.{HasParts}
@@ -54,25 +52,25 @@ module _ (vs : Slab StoredVertex) (ds es : Slab StoredDart) (t : ℕ) (p : Whole
     | inr ne ↦ (let z : Some q ≡ Some r = sym f ∙ u.others j ne ∙ e in let y : q.cycle ≡ r.cycle = cc in sym y)
   ]
 
-  pub view_told : (cs : Slab StoredCycle) (fs : Slab StoredFace) (mv : Option MovedView) (od : List RankKey) (vr cr : ℕ) (mp : Bool) → slab_len es ≡ slab_len ds → es.capacity ≡ ds.capacity → records_view vs es cs fs mv od vr cr mp ≡ records_view vs ds cs fs mv od vr cr mp
-  view_told cs fs mv od vr cr mp len capacity =
-      let e = column_told (λ r. r.cycle) (λ r. refl) in
-      λ i. record {
-        graph = graph_told i;
-        spare_vertices = vr - slab_len vs;
-        spare_darts = capacity i - len i;
-        capacity_of_vertices = vr;
-        capacity_of_darts = capacity i;
-        faces = record {
-          tables = record { cycle_of = e i; bare = somes (tabled bare_of vs); cycles = tabled cycle_record cs; faces = names (entries fs) };
-          rows = face_rows vs cs fs;
-          darts = tabled (λ r. r.dart) cs;
-          spare_cycles = cr - slab_len cs;
-          spare_faces = fs.capacity - slab_len fs;
-          capacity_of_cycles = cr;
-          capacity_of_faces = fs.capacity;
-          moved = option_map moved_room mv;
-        };
-        ranks = ranks_view fs od;
-        mapped = mp;
-      }
+pub view_told : (store : Inside) (es : Slab StoredDart) (t : ℕ) (p : WholeParts) → Updates store.darts es t (option_map (reaching p) (get store.darts t)) → slab_len es ≡ slab_len store.darts → es.capacity ≡ store.darts.capacity → records_view (record store { darts = es }) ≡ records_view store
+view_told store es t p u len capacity =
+    let e = column_told store.vertices store.darts es t p u (λ r. r.cycle) (λ r. refl) in
+    λ i. record {
+      graph = graph_told store.vertices store.darts es t p u i;
+      spare_vertices = store.vertex_room - slab_len store.vertices;
+      spare_darts = capacity i - len i;
+      capacity_of_vertices = store.vertex_room;
+      capacity_of_darts = capacity i;
+      faces = record {
+        tables = record { cycle_of = e i; bare = somes (tabled bare_of store.vertices); cycles = tabled cycle_record store.cycles; faces = names (entries store.faces) };
+        rows = face_rows store.vertices store.cycles store.faces;
+        darts = tabled (λ r. r.dart) store.cycles;
+        spare_cycles = store.cycle_room - slab_len store.cycles;
+        spare_faces = store.faces.capacity - slab_len store.faces;
+        capacity_of_cycles = store.cycle_room;
+        capacity_of_faces = store.faces.capacity;
+        moved = option_map moved_room store.moved;
+      };
+      ranks = ranks_view store.faces store.order.items;
+      mapped = store.at.whole;
+    }

@@ -1,15 +1,12 @@
 -- Slabs that keep all that they hold, and slabs that hold nothing.
-use Rattle.std.proofs.Common.{Bool, ◌≡◌, ℕ, ◌+◌, ◌-◌, ◌≤◌, [], length, count_by, List, Option, None, is_some, slice_index_or, sym, ap, subst, ◌∙◌, arith}
+use Rattle.std.proofs.Common.{◌≡◌, ℕ, ◌+◌, ◌-◌, ◌≤◌, [], length, count_by, List, None, is_some, slice_index_or, sym, ap, subst, ◌∙◌, arith}
 use Rattle.slab.specs.Slab.{Slab, slab_len}
-use Rattle.slab_laws.specs.FaceLists.{MovedView}
 use Rattle.slab_laws.specs.View.{VertexRecord}
 use Rattle.arr_notes.specs.ViewChanges.{no_rows}
 use Rattle.chain_laws.proofs.Tabled.{tabled_slots, tabled_empty, length-tabled}
-use Rattle.dcel_records.specs.declared.ranks.RankKey.{RankKey}
+use Rattle.dcel_records.specs.declared.records.Records.TheInside.{Inside}
 use Rattle.dcel_records.specs.declared.rows.StoredVertex.{StoredVertex}
-use Rattle.dcel_records.specs.declared.rows.StoredCycle.{StoredCycle}
 use Rattle.dcel_records.specs.declared.rows.StoredDart.{StoredDart}
-use Rattle.dcel_records.specs.declared.rows.StoredFace.{StoredFace}
 use Rattle.dcel_records.specs.RecordsView.{RecordsView}
 use Rattle.dcel_records.specs.StoredRows.{vertex_of, dart_of, graph_in, records_view, out_or, pins_among, AreSoundRows, AreSoundGraphs}
 use Rattle.dcel_records.specs.Outs.{IsOut}
@@ -54,9 +51,9 @@ module _ (vs : Slab StoredVertex) (ds : Slab StoredDart) where
 spare_all : {X : Type 0} (s t : Slab X) (room spare many : ℕ) → room - slab_len s ≡ spare → many ≡ slab_len s → slab_len s ≤ room → t.slots ≡ [] → spare + many ≤ room - slab_len t
 spare_all s t room spare many e m l z = let n : slab_len t ≡ 0 = ap (λ os. count_by is_some os) z in omega arith
 
-module _ (vs : Slab StoredVertex) (ds : Slab StoredDart) (cs : Slab StoredCycle) (fs : Slab StoredFace) (mv : Option MovedView) (od : List RankKey) (vr cr : ℕ) (mp : Bool) (h : RecordsView) (is : records_view vs ds cs fs mv od vr cr mp ≡ h) where
-  pub vertices_spare : (t : Slab StoredVertex) → slab_len vs ≤ vr → t.slots ≡ [] → h.spare_vertices + length h.graph.vertices ≤ vr - slab_len t
-  vertices_spare t l z = spare_all vs t vr h.spare_vertices (length h.graph.vertices) (ap (λ x. x.spare_vertices) is) (sym (ap (λ x. length x.graph.vertices) is) ∙ length-tabled vertex_of vs) l z
+module _ (store : Inside) (h : RecordsView) (is : records_view store ≡ h) where
+  pub vertices_spare : (t : Slab StoredVertex) → slab_len store.vertices ≤ store.vertex_room → t.slots ≡ [] → h.spare_vertices + length h.graph.vertices ≤ store.vertex_room - slab_len t
+  vertices_spare t l z = spare_all store.vertices t store.vertex_room h.spare_vertices (length h.graph.vertices) (ap (λ x. x.spare_vertices) is) (sym (ap (λ x. length x.graph.vertices) is) ∙ length-tabled vertex_of store.vertices) l z
 
-  pub darts_spare : (t : Slab StoredDart) → slab_len ds ≤ ds.capacity → t.slots ≡ [] → t.capacity ≡ ds.capacity → h.spare_darts + length h.graph.darts ≤ t.capacity - slab_len t
-  darts_spare t l z c = let a = spare_all ds t ds.capacity h.spare_darts (length h.graph.darts) (ap (λ x. x.spare_darts) is) (sym (ap (λ x. length x.graph.darts) is) ∙ length-tabled dart_of ds) l z in omega (arith, a, c)
+  pub darts_spare : (t : Slab StoredDart) → slab_len store.darts ≤ store.darts.capacity → t.slots ≡ [] → t.capacity ≡ store.darts.capacity → h.spare_darts + length h.graph.darts ≤ t.capacity - slab_len t
+  darts_spare t l z c = let a = spare_all store.darts t store.darts.capacity h.spare_darts (length h.graph.darts) (ap (λ x. x.spare_darts) is) (sym (ap (λ x. length x.graph.darts) is) ∙ length-tabled dart_of store.darts) l z in omega (arith, a, c)

@@ -1,17 +1,16 @@
 -- A cycle whose box has more parts: a caller sees what was there.
-use Rattle.std.proofs.Common.{Bool, ◌≡◌, inl, inr, ℕ, ◌-◌, List, map, Option, Some, None, is_some, IsSome, option_map, refl, sym, ap, subst, ◌∙◌, arith}
+use Rattle.std.proofs.Common.{◌≡◌, inl, inr, ℕ, ◌-◌, map, Option, Some, None, is_some, IsSome, option_map, refl, sym, ap, subst, ◌∙◌, arith}
 use Rattle.std.proofs.lemmas.Bool.{cases_eq, false≢true}
 use Rattle.std.proofs.lemmas.Int.{ints, int_max_is, int_min_is}
 use Rattle.exact_plane.specs.declared.whole_parts.BoundingBox.{BoundingBox}
 use Rattle.exact_plane.specs.declared.whole_parts.WholeParts.{WholeParts}
 use Rattle.slab.specs.Slab.{Slab, get, entries, slab_len, ContainsKey, Updates}
-use Rattle.slab_laws.specs.FaceLists.{MovedView}
 use Rattle.slab_laws.specs.Tables.{names}
 use Rattle.slab_laws.specs.View.{cycle_id, vertex_id}
 use Rattle.arr_notes.proofs.RowLaws.{one_table}
 use Rattle.chain_laws.specs.Rows.{tabled}
 use Rattle.chain_laws.proofs.Tabled.{row-tabled, ascend-tabled}
-use Rattle.dcel_records.specs.declared.ranks.RankKey.{RankKey}
+use Rattle.dcel_records.specs.declared.records.Records.TheInside.{Inside}
 use Rattle.dcel_records.specs.declared.rows.StoredCycle.{StoredCycle}
 use Rattle.dcel_records.specs.declared.rows.StoredDart.{StoredDart}
 use Rattle.dcel_records.specs.declared.rows.StoredFace.{StoredFace}
@@ -105,26 +104,26 @@ module _ (cs es : Slab StoredCycle) (c : ℕ) (p : WholeParts) (u : Updates cs e
     rows_widened : face_rows vs es fs ≡ face_rows vs cs fs
     rows_widened = λ i. map (λ a. (a, record { cycles = map cycle_id (own_same cycle_placing cs fs k.cycles es fs (λ j n. same_nodes n j) (λ b. refl) a i); bare = map vertex_id (own vertex_placing vs fs a) })) (names (entries fs))
 
-    pub view_widened : (ds : Slab StoredDart) (mv : Option MovedView) (od : List RankKey) (vr cr : ℕ) (mp : Bool) → slab_len es ≡ slab_len cs → records_view vs ds es fs mv od vr cr mp ≡ records_view vs ds cs fs mv od vr cr mp
-    view_widened ds mv od vr cr mp len =
-        let a = column_same cycle_record (λ r. refl) in
-        let b = column_same (λ r. r.dart) (λ r. refl) in
-        λ i. record {
-          graph = graph_in vs ds;
-          spare_vertices = vr - slab_len vs;
-          spare_darts = ds.capacity - slab_len ds;
-          capacity_of_vertices = vr;
-          capacity_of_darts = ds.capacity;
-          faces = record {
-            tables = record { cycle_of = tabled (λ r. r.cycle) ds; bare = somes (tabled bare_of vs); cycles = a i; faces = names (entries fs) };
-            rows = rows_widened i;
-            darts = b i;
-            spare_cycles = cr - len i;
-            spare_faces = fs.capacity - slab_len fs;
-            capacity_of_cycles = cr;
-            capacity_of_faces = fs.capacity;
-            moved = option_map moved_room mv;
-          };
-          ranks = ranks_view fs od;
-          mapped = mp;
-        }
+pub view_widened : (store : Inside) (es : Slab StoredCycle) (c : ℕ) (p : WholeParts) → Updates store.cycles es c (option_map (row_widened p) (get store.cycles c)) → AreSoundFaces store.vertices store.cycles store.faces → slab_len es ≡ slab_len store.cycles → records_view (record store { cycles = es }) ≡ records_view store
+view_widened store es c p u k len =
+    let a = column_same store.cycles es c p u cycle_record (λ r. refl) in
+    let b = column_same store.cycles es c p u (λ r. r.dart) (λ r. refl) in
+    λ i. record {
+      graph = graph_in store.vertices store.darts;
+      spare_vertices = store.vertex_room - slab_len store.vertices;
+      spare_darts = store.darts.capacity - slab_len store.darts;
+      capacity_of_vertices = store.vertex_room;
+      capacity_of_darts = store.darts.capacity;
+      faces = record {
+        tables = record { cycle_of = tabled (λ r. r.cycle) store.darts; bare = somes (tabled bare_of store.vertices); cycles = a i; faces = names (entries store.faces) };
+        rows = rows_widened store.cycles es c p u store.vertices store.faces k i;
+        darts = b i;
+        spare_cycles = store.cycle_room - len i;
+        spare_faces = store.faces.capacity - slab_len store.faces;
+        capacity_of_cycles = store.cycle_room;
+        capacity_of_faces = store.faces.capacity;
+        moved = option_map moved_room store.moved;
+      };
+      ranks = ranks_view store.faces store.order.items;
+      mapped = store.at.whole;
+    }

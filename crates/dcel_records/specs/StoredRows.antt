@@ -1,5 +1,5 @@
 -- How two slabs of rows are a graph (this project).
-use Rattle.std.specs.Prelude.{◌≡◌, ◌==◌, Bool, ℕ, cond, ◌-◌, ◌≤◌, List, [], ◌∷◌, map, length, Option, Some, None, option_map, IsSome}
+use Rattle.std.specs.Prelude.{◌≡◌, ◌==◌, ℕ, cond, ◌-◌, ◌≤◌, List, [], ◌∷◌, map, length, Option, Some, None, option_map, IsSome, vec_capacity}
 use Rattle.std.specs.List.{filter}
 use Rattle.exact_plane.specs.WholeParts.{whole_parts}
 use Rattle.exact_plane.specs.declared.whole_parts.WholeParts.{WholeParts}
@@ -18,6 +18,7 @@ use Rattle.dcel_records.specs.declared.rows.StoredDart.{StoredDart}
 use Rattle.dcel_records.specs.declared.rows.StoredCycle.{StoredCycle}
 use Rattle.dcel_records.specs.declared.rows.StoredFace.{StoredFace}
 use Rattle.dcel_records.specs.Placing.{cycle_placing, vertex_placing, nodes, own, AreChained, IsRelinked}
+use Rattle.dcel_records.specs.declared.records.Records.TheInside.{Inside}
 use Rattle.dcel_records.specs.declared.ranks.RankKey.{RankKey}
 use Rattle.dcel_records.specs.RecordsView.{GraphView, FacesView, RecordsView, RanksView, FaceRow, MovedRoom, rank_or}
 use Rattle.dcel_records.specs.Areas.{HasParts}
@@ -88,8 +89,8 @@ abbrev pub ranks_view : Slab StoredFace → List RankKey → RanksView
 ranks_view fs order = record { order = order; ranks = tabled (λ r. r.rank) fs }
 
 -- all that the slabs are; of what the slabs of vertices and cycles have room for, so much is promised; and whether the map is whole
-abbrev pub records_view : Slab StoredVertex → Slab StoredDart → Slab StoredCycle → Slab StoredFace → Option MovedView → List RankKey → ℕ → ℕ → Bool → RecordsView
-records_view vs ds cs fs moved order vertex_room cycle_room mapped = record { graph = graph_in vs ds; spare_vertices = vertex_room - slab_len vs; spare_darts = ds.capacity - slab_len ds; capacity_of_vertices = vertex_room; capacity_of_darts = ds.capacity; faces = faces_view vs ds cs fs moved cycle_room; ranks = ranks_view fs order; mapped = mapped }
+abbrev pub records_view : Inside → RecordsView
+records_view s = record { graph = graph_in s.vertices s.darts; spare_vertices = s.vertex_room - slab_len s.vertices; spare_darts = s.darts.capacity - slab_len s.darts; capacity_of_vertices = s.vertex_room; capacity_of_darts = s.darts.capacity; faces = faces_view s.vertices s.darts s.cycles s.faces s.moved s.cycle_room; ranks = ranks_view s.faces s.order.items; mapped = s.at.whole }
 
 -- the graph of the records, and what the two slabs have room for
 abbrev pub graph_of_slabs : Slab StoredVertex → Slab StoredDart → RecordsView → GraphView
@@ -172,16 +173,16 @@ pub record AreMarked (vs : Slab StoredVertex) (ds : Slab StoredDart) : Type 0 wh
   pub targets : AreTargetsKept ds
 
 -- all that is always true of the records; there is room for a key of each cycle that is promised
-pub record AreSoundRecords (vs : Slab StoredVertex) (ds : Slab StoredDart) (cs : Slab StoredCycle) (fs : Slab StoredFace) (at : VertexMap) (pins lone : ℕ) (lists : Option MovedView) (key_room vertices cycles : ℕ) : Type 0 where
-  pub graph : AreSoundGraphs vs ds at pins
-  pub faces : AreSoundFaces vs cs fs
-  pub vertex_room : IsRoom vertices vs
-  pub cycle_room : IsRoom cycles cs
-  pub on_cycles : AreOnCycles ds cs
-  pub marked : AreMarked vs ds
-  pub moved : AreReadyWhere lists cycles vertices
-  pub isolated : lone ≡ isolated_among vs
-  pub keys : cycles ≤ key_room
+pub record AreSoundRecords (s : Inside) : Type 0 where
+  pub graph : AreSoundGraphs s.vertices s.darts s.at s.pins
+  pub faces : AreSoundFaces s.vertices s.cycles s.faces
+  pub vertex_room : IsRoom s.vertex_room s.vertices
+  pub cycle_room : IsRoom s.cycle_room s.cycles
+  pub on_cycles : AreOnCycles s.darts s.cycles
+  pub marked : AreMarked s.vertices s.darts
+  pub moved : AreReadyWhere s.moved s.cycle_room s.vertex_room
+  pub isolated : s.isolated ≡ isolated_among s.vertices
+  pub keys : s.cycle_room ≤ vec_capacity s.order
 
 -- the vertex c is in no face's list and has no place, and all else is as it was
 pub record HasLeft (c : ℕ) (vs ws : Slab StoredVertex) (fs gs : Slab StoredFace) : Type 0 where

@@ -45,12 +45,11 @@ impl Model for Records {
 
     ghost Value = { RecordsView };
 
-    ghost use Rattle.std.specs.Prelude.{vec_capacity};
     ghost use Rattle.dcel_records.specs.StoredRows.{records_view, AreSoundRecords};
 
-    ghost view = { λ r. records_view r.vertices r.darts r.cycles r.faces r.moved r.order.items r.vertex_room r.cycle_room r.at.whole };
+    ghost view = { records_view };
 
-    ghost invariant = { λ r. AreSoundRecords r.vertices r.darts r.cycles r.faces r.at r.pins r.isolated r.moved (vec_capacity r.order) r.vertex_room r.cycle_room };
+    ghost invariant = { AreSoundRecords };
 }
 
 /// How many vertices, edges, cycles and faces more are to fit.

@@ -15,6 +15,14 @@ pub mod FacesByPairs
 pub mod NewWall
 pub mod OneMoreVertex
 pub mod RecordsAfterSplits
+pub mod EdgeParts
+pub mod EdgeSplitFacts
+pub mod EdgeSplitWalls
+pub mod EdgeSplitNewWall
+pub mod EdgeSplitSlabs
+pub mod EdgeSplitCells
+pub mod EdgeSplitDarts
+pub mod EdgeSplitCycles
 pub mod EdgeSplit
 pub mod CycleNames
 pub mod SoundExamples

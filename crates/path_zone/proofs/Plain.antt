@@ -3,14 +3,15 @@ use Rattle.std.proofs.Common.{◌≡◌, ◌⊎◌, ◌||◌, Bool, true, false,
 use Rattle.std.proofs.lemmas.Int.{ints, int_max_is, int_min_is}
 use Rattle.std.specs.Prelude.{int_lt}
 use Rattle.std.specs.Int.{int_min, int_max}
-use Rattle.integers.proofs.Decisions.{both, eq_out, lt_in, lt_out, or_out}
-use Rattle.std.specs.Ordering.{int_eq}
-use Rattle.exact_plane.specs.Line.{IsOn}
+use Rattle.integers.proofs.Tests.{not_true}
+use Rattle.integers.proofs.Decisions.{both, lt_in, lt_out, or_out}
+use Rattle.exact_plane.specs.Line.{Line, IsOn}
 use Rattle.exact_plane.specs.Point.{Point, point_eq}
 use Rattle.exact_plane.specs.Segment.{Segment, line_of_segment, AreEnds}
 use Rattle.exact_plane.specs.Span.{Span, span_of_segment}
 use Rattle.exact_plane.specs.WholeParts.{are_beyond, are_greater, are_less, bounding_box, excludes, excludes_across, excludes_along, whole_parts}
 use Rattle.exact_plane.specs.declared.whole_parts.BoundingBox.{BoundingBox}
+use Rattle.exact_plane.proofs.Orders.{at_most_itself}
 use Rattle.exact_plane.proofs.WholeOrders.{IsAlong, boxed}
 use Rattle.plane_graphs.specs.Ascending.{Member}
 use Rattle.plane_graphs.proofs.Lists.{and_in}
@@ -70,6 +71,34 @@ ends_beyond k s e =
     (λ h. or_in (excludes_across k a b) (excludes_along k a b) (both_beyond a.y b.y k.least.y k.greatest.y h))
     (or_out (excludes_across k a b) (excludes_along k (bounding_box s).least (bounding_box s).greatest) e)
 
+-- a point of a side is one of the part of its line
+along_side : (g : Segment) → IsCourse g → (x : Point) → IsProper x → is_on_segment g x ≡ true → IsAlong (line_of_segment g) g.lower g.upper x
+along_side g c x proper o =
+    let l = on_span g x o in
+    record {
+      runs = c.line.runs;
+      low_is = c.lower.positive;
+      high_is = c.upper.positive;
+      is = proper.positive;
+      low_on = c.lower_on;
+      high_on = c.upper_on;
+      on = l.on;
+      from = l.from;
+      upto = l.upto;
+    }
+
+-- and the part of the line that is the point alone
+alone : (l : Line) (a b x : Point) → IsAlong l a b x → IsAlong l x x x
+alone l a b x k = record { runs = k.runs; low_is = k.is; high_is = k.is; is = k.is; low_on = k.on; high_on = k.on; on = k.on; from = at_most_itself x; upto = at_most_itself x }
+
+-- a point beyond one side of the box of a side isn't on the side
+pub outside : (z : ZonedSide) (v : View) (f : Faces) → IsZonedSide v f z → (x : Point) → IsProper x → excludes z.bounds (whole_parts x) (whole_parts x) ≡ true → is_on_segment z.side x ≡ false
+outside z v f a x proper o =
+    not_true (is_on_segment z.side x)
+    (λ h.
+    let k = along_side z.side (course z.side a.ends) x proper h in
+    boxed (span_of_segment z.side) (line_of_segment z.side) x x x k (alone (line_of_segment z.side) z.side.lower z.side.upper x k) (subst (λ (b : BoundingBox). excludes b (whole_parts x) (whole_parts x) ≡ true) a.bounds o))
+
 module _ (s t : Segment) (S : AreEnds s) (T : AreEnds t) (x : Point) (h : IsCrossing s t x) where
   abbrev first : IsCourse s
   first = course s S
@@ -86,19 +115,7 @@ module _ (s t : Segment) (S : AreEnds s) (T : AreEnds t) (x : Point) (h : IsCros
       (⊎_elim (λ e. subst (IsOn (line_of_segment t)) (sym e) second.lower_on) (λ e. subst (IsOn (line_of_segment t)) (sym e) second.upper_on) c.of_second))
 
   along : (g : Segment) → IsCourse g → is_on_segment g x ≡ true → IsAlong (line_of_segment g) g.lower g.upper x
-  along g c o =
-      let l = on_span g x o in
-      record {
-        runs = c.line.runs;
-        low_is = c.lower.positive;
-        high_is = c.upper.positive;
-        is = (subst IsProper (sym h.point) (crossing_proper (line_of_segment s) (line_of_segment t) h.apart)).positive;
-        low_on = c.lower_on;
-        high_on = c.upper_on;
-        on = l.on;
-        from = l.from;
-        upto = l.upto;
-      }
+  along g c o = along_side g c x (subst IsProper (sym h.point) (crossing_proper (line_of_segment s) (line_of_segment t) h.apart)) o
 
   never_apart : excludes (bounding_box (span_of_segment s)) (bounding_box (span_of_segment t)).least (bounding_box (span_of_segment t)).greatest ≡ true → ⊥
   never_apart e = boxed (span_of_segment s) (line_of_segment t) t.lower t.upper x (along s first h.on_first) (along t second h.on_second) (ends_beyond (bounding_box (span_of_segment s)) (span_of_segment t) e)

@@ -6,7 +6,7 @@ ghost use Rattle.exact_plane.specs.Span.{span_of_segment, IsSpan};
 ghost use Rattle.exact_plane.specs.WholeParts.{excludes};
 ghost use Rattle.plane_graphs.specs.Ascending.{Member};
 ghost use Rattle.face_location.specs.Spots.{IsSpotOf};
-ghost use Rattle.zone_walk.specs.Zone.{IsZoneOf};
+ghost use Rattle.zone_walk.specs.Zone.{is_on_segment, IsZoneOf};
 ghost use Rattle.path_zone.specs.Gathered.{HasMore, HasPoint, IsOnZoned, IsSpotWithin};
 ghost use Rattle.path_zone.specs.PathZone.{IsCrossing};
 ghost use Rattle.path_zone.specs.Zoned.{has_common_end, is_over as is_over_side, sides_zoned, AreZonedSides, HasAdded, HasEnds, IsPlaceOver, IsToldOf, IsZonedSide};
@@ -188,15 +188,31 @@ pub(crate) fn add_ends(
     Ok(())
 }
 
+// Whether a point is on a side that has a zone. Of most points that aren't, its box tells.
+fn is_on_zoned(zoned: &ZonedSide, point: &Point) -> bool
+    requires { (v : _) × (f : _) × IsZonedSide v f zoned.now }
+    ensures { result ≡ is_on_segment zoned.now.side point.now }
+{
+    // The weight of a point is positive.
+    point.laws();
+    let parts = point.whole_parts();
+    if zoned.bounds.excludes(parts, parts) {
+        return false;
+    }
+    holds(&zoned.side, point)
+}
+
 // Whether both ends of a side are on another one.
 fn is_over(over: &ZonedSide, side: &Segment) -> bool
+    requires { (v : _) × (f : _) × IsZonedSide v f over.now }
     ensures { result ≡ is_over_side over.now side.now }
 {
-    holds(&over.side, &side.lower()) && holds(&over.side, &side.upper())
+    is_on_zoned(over, &side.lower()) && is_on_zoned(over, &side.upper())
 }
 
 /// The place of one of the sides that have zones along which a side runs. `None` where it runs along none of them.
 pub(crate) fn place_over(zones: &[ZonedSide], side: &Segment) -> Option<usize>
+    requires { (v : _) × (f : _) × AreZonedSides v f zones.now }
     ensures { IfSome result (IsPlaceOver zones.now side.now) }
 {
     'zones: for (place, over) in zones.iter().enumerate() {
@@ -214,7 +230,7 @@ pub(crate) fn spot_told(zones: &[ZonedSide], point: &Point) -> Option<Spot>
 {
     point.laws();
     'zones: for zoned in zones {
-        if holds(&zoned.side, point) {
+        if is_on_zoned(zoned, point) {
             return Some(spot_on(&zoned.plan, point));
         }
     }

@@ -1,5 +1,5 @@
 -- What comes to the points that a search has found, what goes, and what stays.
-use Rattle.std.proofs.Common.{◌≡◌, ◌≢◌, ◌⊎◌, ⊎_elim, true, is_eq, Equal, List, [], ◌∷◌, Option, None, Some, sym, ap, ◌∙◌, subst, inl, inr}
+use Rattle.std.proofs.Common.{◌≡◌, ◌≢◌, ◌⊎◌, ⊎_elim, true, is_eq, Equal, List, ◌∷◌, Option, None, Some, sym, ap, ◌∙◌, subst, inl, inr}
 use Rattle.std.proofs.lemmas.Cmp.{tied_itself}
 use Rattle.std.specs.Map.{keys_of, lookup, remove_entry}
 use Rattle.exact_plane.specs.Point.{Point, point_eq}
@@ -7,7 +7,7 @@ use Rattle.exact_plane.specs.PointOrder.{point_cmp}
 use Rattle.exact_plane.specs.PointOrderLaws.{point_cmp_ties, point_cmp_total}
 use Rattle.plane_graphs.specs.Ascending.{Member}
 use Rattle.plane_graphs.specs.Line.{precedes}
-use Rattle.plane_graphs.proofs.Order.{Lt, lt_in, lt_never, lt_out, lt_trans}
+use Rattle.plane_graphs.proofs.Order.{Lt, lt_in, lt_out, lt_trans}
 use Rattle.dcel_records.specs.declared.spot.Spot.{Spot}
 use Rattle.zone_walk.specs.FoundPoints.{entries_of, HasOthers, IsFirstOf}
 use Rattle.zone_walk.specs.declared.plan.Meeting.{Meeting}

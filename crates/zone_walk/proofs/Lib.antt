@@ -23,6 +23,7 @@ pub mod Counted
 pub mod Zoned
 pub mod EdgeLooks
 pub mod OutsideBox
+pub mod Behind
 pub mod Between
 pub mod MorePoints
 pub mod FromFaces

@@ -3,7 +3,8 @@ use Rattle.std.specs.Prelude.{◌↔◌, IsSome}
 use Rattle.std.proofs.Common.{◌≡◌, ◌≢◌, ◌⊎◌, ◌<◌, ◌≤◌, ℕ, Bool, true, false, cond, is_eq, is_some, Contains, Option, None, List, [], ◌∷◌, length, arith, refl, sym, ap, ◌∙◌, subst, inl, inr}
 use Rattle.std.specs.Map.{keys_of, lookup, remove_entry}
 use Rattle.std.specs.List.Sorted.{IsStrictlySortedBy}
-use Rattle.std.specs.BTreeSet.{contains}
+use Rattle.std.specs.BTreeSet.{BTreeSet, contains}
+use Rattle.std.specs.List.{list_any}
 use Rattle.std.specs.Ordering.{nat_cmp}
 use Rattle.exact_plane.specs.Line.{Line, IsOn}
 use Rattle.exact_plane.specs.Point.{Point}
@@ -233,30 +234,58 @@ module _ (v : View) (f : Faces) (S : IsSound v f) (g : Segment) (c : IsCourse g)
           (subst (IsNextMeeting v g p) u z.1, subst (λ (x : Point). IsSpotOf v f x (Face a)) u (face_at v f S g c p proper on before a none tells z.0 z.1 h))
 
 -- ---- one more face visited
-module _ (v : View) (f : Faces) (l m n : Search) (a : IsSearchAt v f l.segment l.here l) (face : FaceId) (ready : IsSearchFrom v l m) (seen : (t : BoundaryPart) → IsOnBoundary v f face t → HasSeen v m t) (failed : m.failed ≡ false) (segment : n.segment ≡ m.segment) (here : n.here ≡ m.here) (whole : n.whole ≡ m.whole) (bounds : n.bounds ≡ m.bounds) (entries : (entries_in n.found) ≡ (entries_in m.found)) (more : (b : ℕ) → contains nat_cmp n.visited b ≡ cond (is_eq (nat_cmp face.0 b)) true (contains nat_cmp m.visited b)) where
-  taken_now : (t : BoundaryPart) → IsOnBoundary v f face t → IsPartTaken v l.segment l.here (entries_in m.found) t
-  taken_now t o =
-      subst (λ (z : Segment). IsPartTaken v z l.here (entries_in m.found) t) ready.one.segment
-      (subst (λ (z : Point). IsPartTaken v m.segment z (entries_in m.found) t) ready.one.here (seen t o failed))
+-- the search with other faces that it visited
+abbrev pub with_visited : Search → BTreeSet ℕ → Search
+with_visited l w = record { alloc = l.alloc; segment = l.segment; whole = l.whole; bounds = l.bounds; here = l.here; found = l.found; visited = w; failed = l.failed }
 
-  taken_by : (b : FaceId) (z : Bool) → is_eq (nat_cmp face.0 b.0) ≡ z → cond z true (contains nat_cmp m.visited b.0) ≡ true → (t : BoundaryPart) → IsOnBoundary v f b t → IsPartTaken v l.segment l.here (entries_in m.found) t
-  taken_by b true i h t o = taken_now t (subst (λ (c : FaceId). IsOnBoundary v f c t) (ap face_id (sym (same_number face.0 b.0 i))) o)
-  taken_by b false i h t o = part_kept v l.segment l.here (entries_in l.found) (entries_in m.found) ready.kept t (a.visited b (ap (λ z. contains nat_cmp z b.0) (sym ready.one.visited) ∙ h) t o)
+pub from_itself : (v : View) (l : Search) (w : BTreeSet ℕ) → IsSearchFrom v l l → IsSearchFrom v (with_visited l w) (with_visited l w)
+from_itself v l w h = record {
+  one = record { segment = refl; here = refl; visited = refl; whole = refl; bounds = refl; failed = λ e. e };
+  sound = h.sound;
+  ends = h.ends;
+  whole = h.whole;
+  spanned = h.spanned;
+  boxed = h.boxed;
+  stands = h.stands;
+  found = h.found;
+  kept = λ r i. i;
+}
 
-  pub visited_one : IsSearchAt v f l.segment l.here n
-  visited_one = record {
-    search = record {
-      one = record { segment = refl; here = refl; visited = refl; whole = refl; bounds = refl; failed = λ e. e };
-      sound = ready.sound;
-      ends = subst AreEnds (sym segment) ready.ends;
-      whole = subst (λ (z : Segment). IsSpan (span_of_segment z)) (sym segment) ready.whole;
-      spanned = whole ∙ ready.spanned ∙ ap span_of_segment (sym segment);
-      boxed = bounds ∙ ready.boxed ∙ ap bounding_box (sym whole);
-      stands = subst (λ (z : Segment). Contains (meeting_points v z) n.here) (sym segment) (subst (Contains (meeting_points v m.segment)) (sym here) ready.stands);
-      found = subst (λ (z : Segment). AreFoundAfter v z n.here (entries_in n.found)) (sym segment) (subst (λ (z : Point). AreFoundAfter v m.segment z (entries_in n.found)) (sym here) (subst (AreFoundAfter v m.segment m.here) (sym entries) ready.found));
-      kept = λ r i. i;
-    };
-    segment = segment ∙ ready.one.segment;
-    here = here ∙ ready.one.here;
-    visited = λ b h t o. subst (λ (es : Entries). IsPartTaken v l.segment l.here es t) (sym entries) (taken_by b (is_eq (nat_cmp face.0 b.0)) refl (sym (more b.0) ∙ h) t o);
+module _ (v : View) (f : Faces) (l : Search) (a : IsSearchAt v f l.segment l.here l) (w : BTreeSet ℕ) where
+  -- the same faces
+  pub visited_same : w.keys ≡ l.visited.keys → IsSearchAt v f l.segment l.here (with_visited l w)
+  visited_same e = record {
+    search = from_itself v l w a.search;
+    segment = refl;
+    here = refl;
+    visited = λ b h. a.visited b (ap (λ ks. list_any (λ k. is_eq (nat_cmp b.0 k)) ks) (sym e) ∙ h);
   }
+
+  -- one more, whose boundary was looked at
+  module _ (m : Search) (face : FaceId) (ready : IsSearchFrom v (with_visited l w) m) (seen : (t : BoundaryPart) → IsOnBoundary v f face t → HasSeen v m t) (failed : m.failed ≡ false) (more : (b : ℕ) → contains nat_cmp w b ≡ cond (is_eq (nat_cmp face.0 b)) true (contains nat_cmp l.visited b)) where
+    taken_now : (t : BoundaryPart) → IsOnBoundary v f face t → IsPartTaken v l.segment l.here (entries_in m.found) t
+    taken_now t o =
+        subst (λ (z : Segment). IsPartTaken v z l.here (entries_in m.found) t) ready.one.segment
+        (subst (λ (z : Point). IsPartTaken v m.segment z (entries_in m.found) t) ready.one.here (seen t o failed))
+
+    taken_by : (b : FaceId) (z : Bool) → is_eq (nat_cmp face.0 b.0) ≡ z → cond z true (contains nat_cmp l.visited b.0) ≡ true → (t : BoundaryPart) → IsOnBoundary v f b t → IsPartTaken v l.segment l.here (entries_in m.found) t
+    taken_by b true i h t o = taken_now t (subst (λ (c : FaceId). IsOnBoundary v f c t) (ap face_id (sym (same_number face.0 b.0 i))) o)
+    taken_by b false i h t o = part_kept v l.segment l.here (entries_in l.found) (entries_in m.found) ready.kept t (a.visited b h t o)
+
+    pub visited_one : IsSearchAt v f l.segment l.here m
+    visited_one = record {
+      search = record {
+        one = record { segment = refl; here = refl; visited = refl; whole = refl; bounds = refl; failed = λ e. e };
+        sound = ready.sound;
+        ends = ready.ends;
+        whole = ready.whole;
+        spanned = ready.spanned;
+        boxed = ready.boxed;
+        stands = ready.stands;
+        found = ready.found;
+        kept = λ r i. i;
+      };
+      segment = ready.one.segment;
+      here = ready.one.here;
+      visited = λ b h. taken_by b (is_eq (nat_cmp face.0 b.0)) refl (sym (more b.0) ∙ ap (λ z. contains nat_cmp z b.0) (sym ready.one.visited) ∙ h);
+    }

@@ -33,8 +33,10 @@ use Rattle.zone_walk.specs.Parts.{TellsFace, IsOnSide}
 use Rattle.zone_walk.specs.Parts.TellsFace.{at_vertex, in_edge, in_face}
 use Rattle.face_steps.specs.VertexSteps.{IsFaceRound}
 use Rattle.dcel_records.specs.Spots.{IsInFace}
+use Rattle.zone_walk.specs.Searches.{IsBehind}
 use Rattle.zone_walk.specs.Walk.{IsAhead}
 use Rattle.zone_walk.proofs.Aheads.{ahead_along, along_ahead, ahead_inside, none_inside, none_in_face}
+use Rattle.zone_walk.proofs.Behind.{crossed}
 use Rattle.zone_walk.proofs.Courses.{IsCourse, LiesOn, one_by_two}
 use Rattle.zone_walk.proofs.LineSides.{side_of_line}
 
@@ -54,8 +56,20 @@ module _ (v : View) (f : Faces) (s : IsGraphSound v) (g : Segment) (c : IsCourse
       on_line_zero : IsOn (line_in v d) g.upper → r ≡ Zero
       on_line_zero h = told ∙ ap sign_by (equal_in (side_of (line_in v d) g.upper) (pos 0) h)
 
+      other_line : r ≢ Zero → line_in v d ≢ line
+      other_line n e = n (on_line_zero (subst (λ (l : Line). IsOn l g.upper) (sym e) c.upper_on))
+
       pub off_line : r ≢ Zero → (e : DartId) → IsAhead v line p e → ⊥
-      off_line n = none_inside v s line p proper on.on d F inner (λ e. n (on_line_zero (subst (λ (l : Line). IsOn l g.upper) (sym e) c.upper_on)))
+      off_line n = none_inside v s line p proper on.on d F inner (other_line n)
+
+      -- both darts of the edge are left behind
+      pub left_behind : r ≢ Zero → IsBehind v g p (Some d)
+      left_behind n = crossed v s g c p proper on d has (dart_in_out v s d p F proper inner).on (other_line n)
+
+      pub twin_behind : r ≢ Zero → (t : DartId) → t ≡ twin_in v d → IsBehind v g p (Some t)
+      twin_behind n t e =
+          let one : line_in v t ≡ line_in v d = ap (line_in v) e ∙ s.twinned.line d has in
+          crossed v s g c p proper on t (subst (HasDart v) (sym e) (s.twinned.has d has)) (subst (λ (l : Line). IsOn l p) (sym one) (dart_in_out v s d p F proper inner).on) (λ q. other_line n (sym one ∙ q))
 
       pub on_left : r ≡ Plus → TellsFace v f p g.upper (face_in f (cycle_in f d))
       on_left e = in_edge d has inner (subst (λ (b : Bool). IsOnSide (edge_in v d) b g.upper) (sym F.1) (lt_is (pos 0) (side (edge_in v d) g.upper) (above_zero (side (edge_in v d) g.upper) (edge_told ∙ e))))

@@ -5,13 +5,13 @@ use Rattle.exact_plane.specs.Line.{Line, side_of, IsOn}
 use Rattle.exact_plane.specs.Meet.{IsMeeting}
 use Rattle.exact_plane.specs.Point.{Point}
 use Rattle.exact_plane.specs.PointOrderLaws.{and_true}
-use Rattle.exact_plane.specs.Segment.{Segment, AreEnds, line_of_segment}
+use Rattle.exact_plane.specs.Segment.{Segment, AreEnds}
 use Rattle.exact_plane.specs.Span.{Span, IsSpan, span_of_segment}
 use Rattle.exact_plane.specs.declared.meets.Meet.{Meet}
 use Rattle.exact_plane.specs.declared.meets.Meet.TheVariants.{Apart}
 use Rattle.plane_graphs.specs.Ascending.{Member}
 use Rattle.plane_graphs.specs.Graph.{Edge as PlaneEdge}
-use Rattle.plane_graphs.specs.Line.{IsProperLine, precedes, is_on}
+use Rattle.plane_graphs.specs.Line.{precedes, is_on}
 use Rattle.plane_graphs.proofs.Lines.{zero_out}
 use Rattle.plane_graphs.proofs.Lists.{clash, not_out}
 use Rattle.plane_graphs.proofs.Marks.{le_lt_lt}
@@ -27,15 +27,16 @@ use Rattle.dcel_records.specs.declared.spot.Spot.{Spot}
 use Rattle.dcel_records.specs.declared.spot.Spot.TheVariants.{Vertex, Edge}
 use Rattle.sound_views.proofs.ForwardDarts.{is_behind, target_has}
 use Rattle.zone_walk.specs.FoundPoints.{entries_in}
-use Rattle.zone_walk.specs.Searches.{AreKept, IsOnEdge, IsThere, AreFoundAfter, IsPartTaken, IsOneSearch, IsSearchFrom, HasSeen, passes_here, points_of_meet}
+use Rattle.zone_walk.specs.Searches.{AreKept, IsOnEdge, IsThere, AreFoundAfter, IsPartTaken, IsOneSearch, IsSearchFrom, IsBehind, HasSeen, passes_here, points_of_meet}
 use Rattle.zone_walk.specs.Sights.{IsDartMet, IsVertexMet, span_in, is_on_span, meet_between}
 use Rattle.zone_walk.specs.declared.edge_points.CommonPoints.{CommonPoints}
 use Rattle.zone_walk.specs.Zone.{is_on_segment, meeting_points, are_one}
 use Rattle.zone_walk.specs.declared.search.Search.{Search}
-use Rattle.zone_walk.proofs.Courses.{IsCourse, course, lies_in, one_by_two, line-itself}
+use Rattle.zone_walk.proofs.Behind.{crossed}
+use Rattle.zone_walk.proofs.Courses.{IsCourse, course, lies_in, line-itself}
 use Rattle.exact_plane.specs.WholeParts.{bounding_box, excludes, whole_parts}
 use Rattle.zone_walk.proofs.MeetingPoints.{MeetsAt, vertex}
-use Rattle.zone_walk.proofs.OutsideBox.{along, outside_missed}
+use Rattle.zone_walk.proofs.OutsideBox.{outside_missed}
 use Rattle.zone_walk.proofs.SeenMeetings.{is_told, is_sound}
 use Rattle.zone_walk.proofs.Stretches.{listed, told, meets_lies, meets_proper}
 
@@ -134,14 +135,16 @@ module _ (v : View) (o k : Search) (h : IsSearchFrom v o k) (d : DartId) (has : 
   pub here_taken : (m : Line) → m ≡ line_in v d → passes_here m k ≡ true → (es : List (Point × Spot)) → IsPartTaken v k.segment k.here es (Dart d)
   here_taken m is passes es = λ p on meets later.
       let w = and_true (is_on m k.here) (not (are_one m k.whole.line)) passes in
-      let at = told v h.sound k.segment way p meets in
-      let proper = meets_proper v h.sound k.segment way p at in
-      let one =
-      one_by_two m (line_of_segment k.segment) k.here p (subst IsProperLine (sym is) (h.sound.drawn.line d has)) way.line
-      (meets_proper v h.sound k.segment way k.here stands) proper (lt_out k.here p later)
-      (zero_out (side_of m k.here) w.0) (meets_lies v h.sound k.segment way k.here stands).on
-      (subst (λ (l : Line). IsOn l p) (sym is) (along v h.sound d has p proper on).on) (meets_lies v h.sound k.segment way p at).on in
-      clash (line-itself m k.whole.line (one ∙ sym (ap (λ (z : Span). z.line) h.spanned))) (not_out (are_one m k.whole.line) w.1)
+      absurd
+      (crossed v h.sound k.segment way k.here (meets_proper v h.sound k.segment way k.here stands) (meets_lies v h.sound k.segment way k.here stands) d has
+      (subst (λ (l : Line). IsOn l k.here) is (zero_out (side_of m k.here) w.0))
+      (λ e. clash (line-itself m k.whole.line (is ∙ e ∙ sym (ap (λ (z : Span). z.line) h.spanned))) (not_out (are_one m k.whole.line) w.1))
+      p on meets later)
+
+  -- the segment came in by its edge
+  pub entry_taken : IsBehind v o.segment o.here (Some d) → (es : List (Point × Spot)) → IsPartTaken v k.segment k.here es (Dart d)
+  entry_taken behind es = λ p on meets later.
+      absurd (behind p on (subst (λ (z : Segment). Contains (meeting_points v z) p) h.one.segment meets) (ap (λ (x : Point). precedes x p) (sym h.one.here) ∙ later))
 
   -- the box of the segment rules the dart out, by its two points as they were told
   pub outside_taken : (p q : Point) → p ≡ point_in v (source_in v d) → q ≡ point_in v (target_in v d) → excludes k.bounds (whole_parts p) (whole_parts q) ≡ true → (es : List (Point × Spot)) → IsPartTaken v k.segment k.here es (Dart d)

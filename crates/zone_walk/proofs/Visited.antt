@@ -1,5 +1,5 @@
 -- A visit looks at a face's boundary, where it passes a dart whose twin it looks at.
-use Rattle.std.proofs.Common.{◌≡◌, true, ◌<◌, arith, refl, sym, ap, ◌∙◌, subst, inl, inr}
+use Rattle.std.proofs.Common.{◌≡◌, true, ◌<◌, Option, arith, refl, sym, ap, ◌∙◌, subst, inl, inr}
 use Rattle.exact_plane.specs.Point.{Point}
 use Rattle.slab_laws.specs.Darts.{Dart as PlaneDart}
 use Rattle.slab_laws.specs.Skeleton.{inside}
@@ -28,8 +28,8 @@ looked_on v f a k l h (Dart d) (inl s) = inl (h (Dart d) s)
 looked_on v f a k l h (Dart d) (inr p) = inr p
 looked_on v f a k l h (Isolated w) s = h (Isolated w) s
 
-pub visit_on : (v w : View) (g f : Faces) (b a : FaceId) (k l m : Search) → (IsSearchFrom v k l → IsSearchFrom v k m) → IsVisitFrom v w g f b a k l → IsVisitFrom v w g f b a k m
-visit_on v w g f b a k l m h i = record { graph = i.graph; faces = i.faces; face = i.face; search = h i.search }
+pub visit_on : (v w : View) (g f : Faces) (b a : FaceId) (e : Option DartId) (k l m : Search) → (IsSearchFrom v k l → IsSearchFrom v k m) → IsVisitFrom v w g f b a e k l → IsVisitFrom v w g f b a e k m
+visit_on v w g f b a e k l m h i = record { graph = i.graph; faces = i.faces; face = i.face; behind = i.behind; search = h i.search }
 
 -- ---- a cycle whose box is apart from the segment's
 pub cycle_looked : (v : View) (o k : Search) → IsSearchFrom v o k → (known f : Faces) (a : FaceId) (l : Lists) (c : CycleId) (g : CycleGlimpse) → IsCycleLookOf v f l c g → are_apart k.bounds g.area ≡ true → (d : DartId) → HasDart v d → cycle_in f d ≡ c → HasLooked v known a k (Dart d)

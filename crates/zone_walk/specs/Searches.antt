@@ -1,5 +1,5 @@
 -- What a search of a face's boundary for meeting points has found.
-use Rattle.std.specs.Prelude.{◌≡◌, ◌⊎◌, ◌<◌, ◌&&◌, Bool, not, true, false, List, Contains, Option, Some, None}
+use Rattle.std.specs.Prelude.{◌≡◌, ◌⊎◌, ◌<◌, ◌&&◌, Bool, not, true, false, List, Contains, Option, Some, None, ⊤}
 use Rattle.std.specs.Map.{keys_of}
 use Rattle.exact_plane.specs.Line.{Line}
 use Rattle.exact_plane.specs.Point.{Point}
@@ -93,6 +93,11 @@ HasSeen v l t = l.failed ≡ false → IsPartTaken v l.segment l.here (entries_i
 abbrev pub passes_here : Line → Search → Bool
 passes_here l k = is_on l k.here && not (are_one l k.whole.line)
 
+-- no later meeting point of the segment is on the edge of the dart, where there is one (this project)
+abbrev pub IsBehind : View → Segment → Point → Option DartId → Type 0
+IsBehind v s here None = ⊤
+IsBehind v s here (Some d) = (p : Point) → IsOnEdge v d p → Contains (meeting_points v s) p → precedes here p ≡ true → ⊥
+
 -- ---- visits
 -- the dart's twin is on the boundary of the face too, and has the lesser name of the two (this project)
 pub record IsPassed (v : View) (f : Faces) (a : FaceId) (d : DartId) : Type 0 where
@@ -104,9 +109,10 @@ abbrev pub HasLooked : View → Faces → FaceId → Search → BoundaryPart →
 HasLooked v f a l (Dart d) = HasSeen v l (Dart d) ⊎ IsPassed v f a d
 HasLooked v f a l (Isolated w) = HasSeen v l (Isolated w)
 
--- a visit of the face a, with the search l, has gone on from one of the face b with the search k (this project)
-pub record IsVisitFrom (v : View) (known : View) (g f : Faces) (b a : FaceId) (k l : Search) : Type 0 where
+-- a visit of the face a, with the search l, has gone on from one of the face b with the search k; the segment came in by the edge of e, if there is such a dart, and leaves it behind (this project)
+pub record IsVisitFrom (v : View) (known : View) (g f : Faces) (b a : FaceId) (e : Option DartId) (k l : Search) : Type 0 where
   pub graph : known ≡ v
   pub faces : f ≡ g
   pub face : a ≡ b
+  pub behind : IsBehind v k.segment k.here e
   pub search : IsSearchFrom v k l

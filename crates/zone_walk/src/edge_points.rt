@@ -1,5 +1,5 @@
 //! What a segment has in common with an edge that was looked at: sides rule out most edges, an exact meeting comes last.
-ghost use Rattle.std.specs.Prelude.{◌≡◌, ◌&&◌, ◌||◌};
+ghost use Rattle.std.specs.Prelude.{◌≡◌, ◌&&◌, ◌||◌, true, None};
 ghost use Rattle.zone_walk.specs.Found.{is_left, is_right};
 ghost use Rattle.zone_walk.specs.Sights.{IsSoundLook, IsMetOf, span_in};
 
@@ -61,8 +61,21 @@ fn edge_seen(looked: &Glimpse, source: &Point, target: &Point) -> Span
     }
 }
 
-/// The points that a span has in common with the edge of a dart that was looked at, its ends included. `None` where there are none,
-/// which the side of the span's line on which the ends are tells mostly.
+/// Whether the side of a span's line on which the points of a dart that was looked at are tells that its edge has no point in common
+/// with the span.
+pub(crate) fn is_ruled_out(looked: &Glimpse, whole: &Span) -> bool
+    ensures { (v : _) (d : _) → IsSoundLook v d looked.now → result ≡ true → IsMetOf v whole.now d None }
+{
+    let source = looked.source();
+    let target = looked.target();
+    // The laws of points and lines tell that the edge is a span.
+    source.laws();
+    target.laws();
+    looked.line().laws();
+    are_aside(&whole.line(), &source, &target)
+}
+
+/// The points that a span has in common with the edge of a dart that was looked at, its ends included. `None` where there are none.
 pub(crate) fn points_on_edge(looked: &Glimpse, whole: &Span) -> Option<CommonPoints>
     requires { (v : _) × (d : _) × IsSoundLook v d looked.now }
     ensures { (v : _) (d : _) → IsSoundLook v d looked.now → IsMetOf v whole.now d result }
@@ -73,9 +86,6 @@ pub(crate) fn points_on_edge(looked: &Glimpse, whole: &Span) -> Option<CommonPoi
     source.laws();
     target.laws();
     looked.line().laws();
-    if are_aside(&whole.line(), &source, &target) {
-        return None;
-    }
     let edge = edge_seen(looked, &source, &target);
     match span_meeting(whole, &edge) {
         Meet::Apart => None,

@@ -12,7 +12,7 @@ ghost use Rattle.dcel_records.specs.declared.spot.Spot.TheVariants.{Edge};
 ghost use Rattle.zone_walk.specs.FoundPoints.{entries_in};
 ghost use Rattle.zone_walk.specs.Searches.{AreKept, IsOnEdge, IsThere, IsOneSearch, IsSearchFrom, IsPassed, IsVisitFrom, HasSeen, HasLooked, passes_here};
 
-use crate::edge_points::{CommonPoints, points_on_edge};
+use crate::edge_points::{CommonPoints, is_ruled_out, points_on_edge};
 use crate::found::FoundPoints;
 use crate::sight::Sight;
 use counted_looks::{BoundaryPart, Glimpse, Looker, NameCalls};
@@ -78,7 +78,8 @@ fn spot_on<T: Sight>(sight: &T, dart: DartId, source: &Point, target: &Point, po
     }
 }
 
-// Keeps a point on the edge of a dart that was met, where there is one.
+// Keeps a point on the edge of a dart that was met, where there is one. It is inlined, since there is hardly ever a second one.
+#[inline(always)]
 fn take_on<T: Sight>(
     search: &mut Search,
     sight: &T,
@@ -103,14 +104,16 @@ fn take_on<T: Sight>(
 }
 
 // Whether an edge's line passes through the point where the search stands, and isn't the segment's own: then the two lines have
-// no other point in common, so no later one of the segment is on the edge. By such an edge the segment came into the face.
+// no other point in common, so no later one of the segment is on the edge. At a vertex two edges of a face are such.
 fn passes_here(line: Line, search: &Search) -> bool
     ensures { result ≡ passes_here line search.now }
 {
     line.holds(&search.here) && line != search.whole.line()
 }
 
-// Keeps the meeting points on the edge of a dart that was looked at, and its ends.
+// Keeps the meeting points on the edge of a dart that was looked at, and its ends. It is a call, since few looks come to it, and
+// all others would have to make room for its points.
+#[inline(never)]
 fn take_on_dart<T: Sight>(search: &mut Search, sight: &T, dart: DartId, looked: &Glimpse)
     requires ready { (k : _) × IsSearchFrom (T.graph sight.now) k search.old }
     requires dart { HasDart (T.graph sight.now) dart }
@@ -119,9 +122,6 @@ fn take_on_dart<T: Sight>(search: &mut Search, sight: &T, dart: DartId, looked: 
     ensures seen { HasSeen (T.graph sight.now) search.new (Dart dart) }
     ensures still { (t : _) → HasSeen (T.graph sight.now) search.old t → HasSeen (T.graph sight.now) search.new t }
 {
-    if passes_here(looked.line(), search) {
-        return;
-    }
     if let Some(common) = points_on_edge(looked, &search.whole) {
         take_on(search, sight, dart, &common, Some(common.first));
         take_on(search, sight, dart, &common, common.last);
@@ -157,11 +157,24 @@ fn is_passed<T: Sight>(sight: &T, face: FaceId, dart: DartId) -> bool
     twin.0 < dart.0 && sight.face(sight.cycle(twin)).0 == face.0
 }
 
+// Whether it is plain that the segment leaves the edge of a dart behind: it came into the face by this edge, or, where it crossed none,
+// the edge's line passes through where it stands. Where it crossed an edge it stands on no other one.
+fn is_behind(entry: Option<DartId>, dart: DartId, line: Line, search: &Search) -> bool
+    ensures { result ≡ true → (entry ≡ Some dart) ⊎ (passes_here line search.now ≡ true) }
+{
+    match entry {
+        Some(entered) => entered == dart,
+        None => passes_here(line, search),
+    }
+}
+
 /// A search at the boundary of a face, the last one that it visited.
 #[derive(Drop)]
 pub(crate) struct Visit<'a, T: Sight> {
     pub(crate) sight: &'a T,
     pub(crate) face: FaceId,
+    /// The dart by whose edge the segment came into the face, where it came by one.
+    pub(crate) entry: Option<DartId>,
     pub(crate) search: Search,
 }
 
@@ -170,26 +183,33 @@ impl<'a, T: Sight> Visit<'a, T> {
     // inlined into the loop round a cycle.
     #[inline(never)]
     fn look_closely(&mut self, sight: &T, dart: DartId, looked: Glimpse)
-        requires ready { (k : Visit T) × IsVisitFrom (T.graph sight.now) (T.graph self.old.sight.now) (T.faces k.sight.now) (T.faces self.old.sight.now) k.face self.old.face k.search self.old.search }
+        requires ready { (k : Visit T) × IsVisitFrom (T.graph sight.now) (T.graph self.old.sight.now) (T.faces k.sight.now) (T.faces self.old.sight.now) k.face self.old.face self.old.entry k.search self.old.search }
         requires dart { HasDart (T.graph sight.now) dart }
         requires looked { IsLookOf (T.graph sight.now) (Edge dart) looked }
-        ensures ready { (k : Visit T) → IsVisitFrom (T.graph sight.now) (T.graph self.old.sight.now) (T.faces k.sight.now) (T.faces self.old.sight.now) k.face self.old.face k.search self.old.search → IsVisitFrom (T.graph sight.now) (T.graph self.new.sight.now) (T.faces k.sight.now) (T.faces self.new.sight.now) k.face self.new.face k.search self.new.search }
+        ensures ready { (k : Visit T) → IsVisitFrom (T.graph sight.now) (T.graph self.old.sight.now) (T.faces k.sight.now) (T.faces self.old.sight.now) k.face self.old.face self.old.entry k.search self.old.search → IsVisitFrom (T.graph sight.now) (T.graph self.new.sight.now) (T.faces k.sight.now) (T.faces self.new.sight.now) k.face self.new.face self.new.entry k.search self.new.search }
         ensures seen { HasLooked (T.graph sight.now) (T.faces self.new.sight.now) self.new.face self.new.search (Dart dart) }
         ensures still { (t : _) → HasLooked (T.graph sight.now) (T.faces self.old.sight.now) self.old.face self.old.search t → HasLooked (T.graph sight.now) (T.faces self.new.sight.now) self.new.face self.new.search t }
     {
         // The faces are known of the visit's own sight, which has the graph that is looked at.
-        if !is_passed(self.sight, self.face, dart) {
-            take_on_dart(&mut self.search, sight, dart, &looked);
+        if is_passed(self.sight, self.face, dart) {
+            return;
         }
+        if is_behind(self.entry, dart, looked.line(), &self.search) {
+            return;
+        }
+        if is_ruled_out(&looked, &self.search.whole) {
+            return;
+        }
+        take_on_dart(&mut self.search, sight, dart, &looked);
     }
 
     // What a look at a dart told. Nearly all darts of a cycle that comes near the segment are beyond one side of its box.
     #[inline(always)]
     fn see(&mut self, sight: &T, dart: DartId, looked: Glimpse)
-        requires ready { (k : Visit T) × IsVisitFrom (T.graph sight.now) (T.graph self.old.sight.now) (T.faces k.sight.now) (T.faces self.old.sight.now) k.face self.old.face k.search self.old.search }
+        requires ready { (k : Visit T) × IsVisitFrom (T.graph sight.now) (T.graph self.old.sight.now) (T.faces k.sight.now) (T.faces self.old.sight.now) k.face self.old.face self.old.entry k.search self.old.search }
         requires dart { HasDart (T.graph sight.now) dart }
         requires looked { IsLookOf (T.graph sight.now) (Edge dart) looked }
-        ensures ready { (k : Visit T) → IsVisitFrom (T.graph sight.now) (T.graph self.old.sight.now) (T.faces k.sight.now) (T.faces self.old.sight.now) k.face self.old.face k.search self.old.search → IsVisitFrom (T.graph sight.now) (T.graph self.new.sight.now) (T.faces k.sight.now) (T.faces self.new.sight.now) k.face self.new.face k.search self.new.search }
+        ensures ready { (k : Visit T) → IsVisitFrom (T.graph sight.now) (T.graph self.old.sight.now) (T.faces k.sight.now) (T.faces self.old.sight.now) k.face self.old.face self.old.entry k.search self.old.search → IsVisitFrom (T.graph sight.now) (T.graph self.new.sight.now) (T.faces k.sight.now) (T.faces self.new.sight.now) k.face self.new.face self.new.entry k.search self.new.search }
         ensures seen { HasLooked (T.graph sight.now) (T.faces self.new.sight.now) self.new.face self.new.search (Dart dart) }
         ensures still { (t : _) → HasLooked (T.graph sight.now) (T.faces self.old.sight.now) self.old.face self.old.search t → HasLooked (T.graph sight.now) (T.faces self.new.sight.now) self.new.face self.new.search t }
     {
@@ -202,7 +222,7 @@ impl<'a, T: Sight> Visit<'a, T> {
 impl<'a, T: Sight> Looker<T> for Visit<'a, T> {
     ghost use Rattle.zone_walk.specs.Searches.{IsVisitFrom, HasLooked};
 
-    ghost may_look = { λ v k l. IsVisitFrom v (T.graph l.sight.now) (T.faces k.sight.now) (T.faces l.sight.now) k.face l.face k.search l.search };
+    ghost may_look = { λ v k l. IsVisitFrom v (T.graph l.sight.now) (T.faces k.sight.now) (T.faces l.sight.now) k.face l.face l.entry k.search l.search };
 
     ghost has_seen = { λ v l t. HasLooked v (T.faces l.sight.now) l.face l.search t };
 

@@ -14,7 +14,7 @@ ghost use Rattle.dcel_records.specs.declared.spot.Spot.TheVariants.{Edge as OnEd
 ghost use Rattle.dcel_records.specs.Spots.{IsMet, met_of};
 ghost use Rattle.face_location.specs.Spots.{IsSpotOf};
 ghost use Rattle.zone_walk.specs.FoundPoints.{entries_in};
-ghost use Rattle.zone_walk.specs.Searches.{IsPartTaken};
+ghost use Rattle.zone_walk.specs.Searches.{IsBehind, IsPartTaken};
 ghost use Rattle.zone_walk.specs.Walk.{IsPartAhead, IsSpotStretch, IsSearchAt, IsVisitAt, IsNextOf, stop_looks, has_visited};
 ghost use Rattle.zone_walk.specs.Zone.{is_on_segment, meeting_points, vertices_needed, edges_needed, edges_met, degree_at, dart_of_spot, CoversVisits, IsSpotBetween, IsNextMeeting, IsZoneOf};
 
@@ -74,84 +74,97 @@ fn side_of_end(looked: &Glimpse, segment: &Segment) -> Sign
 }
 
 // What follows a point inside an edge on the segment: the edge, where it is along the segment, or the face on the side of it on
-// which the segment's upper end is. The edge's line runs as its forward dart does.
+// which the segment's upper end is, with the dart of the edge on this side. The edge's line runs as its forward dart does.
 fn ahead_of_edge<T: Sight, L: Ledger>(
     sight: &T,
     segment: &Segment,
     here: &Point,
     dart: DartId,
     steps: &mut Steps<L>,
-) -> (Spot, Point)
+) -> (Spot, Point, Option<DartId>)
     requires sound { IsSound (T.graph sight.now) (T.faces sight.now) }
     requires met { IsMet (T.graph sight.now) here.now (met_of (OnEdge dart)) }
     requires on { is_on_segment segment.now here.now ≡ true }
     requires before { precedes here.now segment.now.upper ≡ true }
     ensures part { IsPartAhead (T.graph sight.now) (T.faces sight.now) segment.now here.now result.0 result.1 }
+    ensures entry { IsBehind (T.graph sight.now) segment.now here.now result.2 }
     ensures count { steps.new ≤ steps.old + stop_looks (T.graph sight.now) segment.now here.now }
 {
     let lower = segment.lower();
     here.laws();
     let looked = sight.glimpse(dart, steps);
     match side_of_end(&looked, segment) {
-        Sign::Plus => (Spot::Face(sight.face(sight.cycle(dart))), lower),
-        Sign::Minus => {
-            let face = sight.face(sight.cycle(sight.twin(dart)));
-            (Spot::Face(face), lower)
+        Sign::Plus => {
+            let face = sight.face(sight.cycle(dart));
+            (Spot::Face(face), lower, Some(dart))
         }
-        Sign::Zero => (Spot::Edge(dart), looked.target()),
+        Sign::Minus => {
+            let twin = sight.twin(dart);
+            let face = sight.face(sight.cycle(twin));
+            (Spot::Face(face), lower, Some(twin))
+        }
+        Sign::Zero => (Spot::Edge(dart), looked.target(), None),
     }
 }
 
-// What follows a meeting point on the segment, which is given as a span too.
+// What follows a meeting point on the segment, which is given as a span too, and where it is a face, the dart by whose edge the
+// segment comes into it from inside the edge.
 fn part_ahead<T: Sight, L: Ledger>(
     sight: &T,
     segment: &Segment,
     whole: &Span,
     here: &Meeting,
     steps: &mut Steps<L>,
-) -> (Spot, Point)
+) -> (Spot, Point, Option<DartId>)
     requires sound { IsSound (T.graph sight.now) (T.faces sight.now) }
     requires whole { whole.now ≡ span_of_segment segment.now }
     requires spot { IsSpotOf (T.graph sight.now) (T.faces sight.now) here.now.point here.now.spot }
     requires on { is_on_segment segment.now here.now.point ≡ true }
     requires before { precedes here.now.point segment.now.upper ≡ true }
     ensures part { IsPartAhead (T.graph sight.now) (T.faces sight.now) segment.now here.now.point result.0 result.1 }
+    ensures entry { IsBehind (T.graph sight.now) segment.now here.now.point result.2 }
     ensures count { steps.new ≤ steps.old + stop_looks (T.graph sight.now) segment.now here.now.point }
 {
     match here.spot {
-        Spot::Vertex(vertex) => ahead_of_vertex(sight, segment, whole, vertex, steps),
+        Spot::Vertex(vertex) => {
+            let (part, end) = ahead_of_vertex(sight, segment, whole, vertex, steps);
+            (part, end, None)
+        }
         Spot::Edge(dart) => ahead_of_edge(sight, segment, &here.point, dart, steps),
         Spot::Face(face) => {
             here.point.laws();
-            (Spot::Face(face), segment.lower())
+            (Spot::Face(face), segment.lower(), None)
         }
     }
 }
 
-// Looks at a face's boundary, unless it was looked at.
+// Looks at a face's boundary, unless it was looked at. `entry` is the dart by whose edge the segment came into the face, if any.
 fn visit<T: Sight, L: Ledger>(
     looker: &mut Visit<'_, T>,
     sight: &T,
     face: FaceId,
+    entry: Option<DartId>,
     steps: &mut Steps<L>,
 ) -> Result<(), NoMemory>
     requires sound { IsSound (T.graph sight.now) (T.faces sight.now) }
     requires lists { AreLists (T.graph sight.now) (T.faces sight.now) (T.lists sight.now) }
     requires face { HasFace (T.faces sight.now) face }
     requires search { IsVisitAt (T.graph sight.now) (T.faces sight.now) (T.graph looker.old.sight.now) (T.faces looker.old.sight.now) looker.old.search.segment looker.old.search.here looker.old.search }
+    requires entry { IsBehind (T.graph sight.now) looker.old.search.segment looker.old.search.here entry }
     ensures search { OnOk result (IsVisitAt (T.graph sight.now) (T.faces sight.now) (T.graph looker.new.sight.now) (T.faces looker.new.sight.now) looker.old.search.segment looker.old.search.here looker.new.search) }
     ensures visited { OnOk result (has_visited looker.new.search face ≡ true) }
     ensures count { steps.new ≤ steps.old + boundary_size (T.graph sight.now) (T.faces sight.now) face }
 {
-    if looker.search.visited.contains(&face.0) {
+    let is_first = looker.search.visited.insert(face.0)?;
+    if !is_first {
         return Ok(());
     }
     looker.face = face;
+    looker.entry = entry;
     look_at_boundary(looker, sight, face, steps);
     if looker.search.failed {
         return Err(NoMemory);
     }
-    looker.search.visited.insert(face.0)?;
     Ok(())
 }
 
@@ -223,7 +236,7 @@ fn onward<T: Sight, L: Ledger>(
     ensures looks { (n : _) → ((q : _) (a : _) → IsNextMeeting (T.graph sight.now) looker.old.search.segment here.now.point q → IsSpotBetween (T.graph sight.now) (T.faces sight.now) looker.old.search.segment here.now.point q (InFace a) → boundary_size (T.graph sight.now) (T.faces sight.now) a ≤ n) → steps.new ≤ steps.old + (stop_looks (T.graph sight.now) looker.old.search.segment here.now.point + n) }
 {
     here.point.laws();
-    let (part, end) = part_ahead(
+    let (part, end, entry) = part_ahead(
         sight,
         &looker.search.segment,
         &looker.search.whole,
@@ -236,7 +249,7 @@ fn onward<T: Sight, L: Ledger>(
             Ok((part, next.point, next.spot))
         }
         Spot::Face(face) => {
-            visit(looker, sight, face, steps)?;
+            visit(looker, sight, face, entry, steps)?;
             let next = next_inside(&mut looker.search, sight, face);
             Ok((part, next.point, next.spot))
         }
@@ -334,10 +347,11 @@ pub fn zone<T: Sight, L: Ledger>(
     let upper = segment.upper();
     let mut point = segment.lower();
     let mut spot = start;
-    // The face comes with the first visit.
+    // The face and the dart by which it is entered come with the first visit.
     let mut looker = Visit {
         sight,
         face: FaceId(0),
+        entry: None,
         search: begin(alloc, segment),
     };
     let mut plan = ZonePlan {

@@ -1,3 +1,4 @@
+use Rattle.curve_pieces.proofs.Indexed.{row_more}
 use Rattle.curve_pieces.proofs.Put.{next_still, place_kept, head_still, curves_with, piece_here, pieces_kept, order_with, kept_with}
 use Rattle.curve_pieces.proofs.rows.put_row.Goals as goal
 
@@ -24,3 +25,6 @@ returns-clause-others c = pieces_kept c.args.rows.now c.args.ends.now c.requires
 
 pub returns-clause-curves : goal.returns-clause-curves
 returns-clause-curves c = λ heads l. curves_with c.args.rows.now c.args.ends.now c.requires.order c.args.place c.requires.place c.args.piece c.after_place-after.result c.args.head c.after_place-after.ensures c.insert_reserved-name.result c.insert_reserved-name.ensures.was_vacant c.insert_reserved-name.new.self c.insert_reserved-name.ensures.updates c.set_before.new.rows c.set_before.ensures c.set_after.new.rows c.set_after.ensures heads l c.set_prior.new.rows c.set_prior.ensures
+
+pub returns-clause-more : goal.returns-clause-more
+returns-clause-more c = row_more c.args.rows.now c.set_prior.new.rows c.args.ends.now c.ends_with.result c.requires.order c.insert_reserved-name.result (returns-clause-others c) c.args.piece c.args.place (returns-clause-order c) c.insert_reserved-name.ensures.was_vacant (returns-clause-piece c) (returns-clause-names c)

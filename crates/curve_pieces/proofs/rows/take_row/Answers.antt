@@ -1,3 +1,4 @@
+use Rattle.curve_pieces.proofs.Indexed.{row_fewer}
 use Rattle.curve_pieces.proofs.Taken.{before_still, after_still, prior_still, next_still, curves_without, order_without, kept_without, pieces_else}
 use Rattle.curve_pieces.proofs.rows.take_row.Goals as goal
 
@@ -24,3 +25,6 @@ returns-clause-others c = pieces_else c.args.rows.now c.args.name c.remove-gone.
 
 pub returns-clause-curves : goal.returns-clause-curves
 returns-clause-curves c = curves_without c.args.rows.now c.args.name c.remove-gone.result c.remove-gone.ensures.value c.remove-gone.new.self c.remove-gone.ensures.updates c.set_after.new.rows c.set_after.ensures c.set_before.new.rows c.set_before.ensures c.set_next.new.rows c.set_next.ensures c.set_prior.new.rows c.set_prior.ensures
+
+pub returns-clause-fewer : goal.returns-clause-fewer
+returns-clause-fewer c = row_fewer c.args.rows.now c.set_prior.new.rows c.args.ends.now c.ends_without.result c.requires.order c.args.name (returns-clause-others c) c.remove-gone.result c.remove-gone.ensures.value (returns-clause-names c)

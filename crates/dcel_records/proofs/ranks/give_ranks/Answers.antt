@@ -12,7 +12,10 @@ loop-place-init c = record {
 
 pub loop-place-preserved : goal.loop-place-preserved
 loop-place-preserved c = record {
-  kept = rank_written c.args.faces.now c.loop-place.faces c.args.order.now c.loop-place.place c.index-order-place.result c.index-order-place.is c.loop-place-test.true c.index_mut-in-loop-place.result.now c.index_mut-in-loop-place.ensures.value c.loop-place.invariant.kept;
-  zero = zero_kept c.args.faces.now c.loop-place.faces c.args.order.now c.loop-place.place c.index-order-place.result c.index-order-place.is c.loop-place-test.true c.index_mut-in-loop-place.result.now c.index_mut-in-loop-place.ensures.value c.loop-place.invariant.zero;
-  ranked = ranks_written c.args.faces.now c.loop-place.faces c.args.order.now c.loop-place.place c.index-order-place.result c.index-order-place.is c.loop-place-test.true c.index_mut-in-loop-place.result.now c.index_mut-in-loop-place.ensures.value c.loop-place.invariant.ranked;
+  kept = rank_written c.args.faces.now c.loop-place.faces c.args.order.now c.loop-place.place c.index-order-place.result c.index-order-place.is c.loop-place-test.true
+      c.index_mut-in-loop-place.result.now c.index_mut-in-loop-place.ensures.value c.loop-place.invariant.kept;
+  zero = zero_kept c.args.faces.now c.loop-place.faces c.args.order.now c.loop-place.place c.index-order-place.result c.index-order-place.is c.loop-place-test.true
+      c.index_mut-in-loop-place.result.now c.index_mut-in-loop-place.ensures.value c.loop-place.invariant.zero;
+  ranked = ranks_written c.args.faces.now c.loop-place.faces c.args.order.now c.loop-place.place c.index-order-place.result c.index-order-place.is c.loop-place-test.true
+      c.index_mut-in-loop-place.result.now c.index_mut-in-loop-place.ensures.value c.loop-place.invariant.ranked;
 }

@@ -7,6 +7,9 @@ use Rattle.path_zone.specs.PathZone.{IsCrossing}
 use Rattle.path_zone.specs.Zoned.{is_over, sides_zoned, AreZonedSides, IsPlaceOver}
 use Rattle.path_zone.proofs.path.add_side.Goals as goal
 
+pub place_over-requires : goal.place_over-requires
+place_over-requires g c = (c.args.records.now.graph, tables_of c.args.records.now, subst (AreZonedSides c.args.records.now.graph (tables_of c.args.records.now)) (sym c.deref.ensures.value) c.requires.zones)
+
 pub add_ends-requires : goal.add_ends-requires
 add_ends-requires g c =
     let p = subst (λ zs. IsPlaceOver zs c.args.begun.now.side c.in-Some.place) c.deref.ensures.value c.in-Some.ensures in

@@ -15,8 +15,7 @@ use Rattle.zone_walk.specs.FoundPoints.{entries_in}
 use Rattle.zone_walk.specs.Searches.{IsOnEdge, IsPartTaken, IsSearchFrom}
 use Rattle.zone_walk.specs.Sights.{IsSoundLook}
 use Rattle.zone_walk.specs.declared.search.Search.{Search}
-use Rattle.zone_walk.proofs.Searched.{both_takes, goes_on, one_on, kept_on, still_seen, is_point, dart_taken, none_taken, here_taken}
-use Rattle.zone_walk.proofs.SeenSpans.{told_line}
+use Rattle.zone_walk.proofs.Searched.{both_takes, goes_on, one_on, kept_on, still_seen, is_point, dart_taken, none_taken}
 use Rattle.zone_walk.proofs.search.take_on_dart.Goals as goal
 
 -- what holds of each point that there may be
@@ -30,12 +29,6 @@ some_of P o p e h = subst (λ (x : Option Point). IfSome x P) e h
 -- a look at a dart in the search's view
 sound_look : (v : View) (o k : Search) → IsSearchFrom v o k → (d : DartId) → HasDart v d → (l : Looked) → IsLookOf v (Edge d) l → IsSoundLook v d l
 sound_look v o k h d has l look = record { sound = h.sound; has = has; look = look }
-
-pub returns-then-passes_here-clause-seen : goal.returns-then-passes_here-clause-seen
-returns-then-passes_here-clause-seen g c = λ failed.
-    let v = g.T.NameCalls.graph c.args.sight.now in
-    let h = c.requires.ready in
-    here_taken v h.0 c.args.search.now h.1 c.args.dart c.requires.dart c.line.result (told_line c.args.looked.now.line _ _ c.line.ensures c.requires.looked.2) (sym c.passes_here.ensures ∙ c.if-passes_here.true) (entries_in c.args.search.now.found)
 
 pub points_on_edge-requires : goal.points_on_edge-requires
 points_on_edge-requires g c =

@@ -1,19 +1,14 @@
-use Rattle.std.proofs.Common.{◌≡◌, ◌⊎◌, true, false, refl, sym, ap, ◌∙◌, subst, inl, inr, List}
-use Rattle.std.specs.Map.{keys_of}
+use Rattle.std.proofs.Common.{◌≡◌, ◌⊎◌, true, false, refl, sym, ap, ◌∙◌, inl, inr}
 use Rattle.exact_plane.specs.Point.{Point}
-use Rattle.plane_graphs.specs.Ascending.{Member}
 use Rattle.plane_graphs.specs.Line.{precedes}
 use Rattle.plane_graphs.proofs.Order.{lt_out}
 use Rattle.slab_laws.specs.declared.names.VertexId.{VertexId}
 use Rattle.slab_laws.specs.View.{target_in}
-use Rattle.dcel_records.specs.declared.spot.Spot.{Spot}
 use Rattle.dcel_records.specs.declared.spot.Spot.TheVariants.{Vertex, Edge}
-use Rattle.zone_walk.specs.FoundPoints.{entries_in}
 use Rattle.zone_walk.specs.declared.plan.Meeting.{Meeting}
 use Rattle.zone_walk.specs.declared.search.Search.{Search}
 use Rattle.zone_walk.proofs.Courses.{course, lies_out}
-use Rattle.zone_walk.proofs.Entries.{key_of_entry}
-use Rattle.zone_walk.proofs.Nexts.{moved, along_next, removed_from, others_kept, none_there}
+use Rattle.zone_walk.proofs.Nexts.{moved, along_next}
 use Rattle.zone_walk.proofs.walk.next_along.Goals as goal
 use Rattle.zone_walk.proofs.walk.next_along.Goals.{then-lt, else-lt}
 

@@ -5,6 +5,7 @@ use Rattle.plane_graphs.proofs.Lines.{point_is_proper}
 use Rattle.plane_graphs.proofs.Order.{lt_out}
 use Rattle.dcel_records.specs.declared.spot.Spot.{Spot}
 use Rattle.dcel_records.specs.declared.spot.Spot.TheVariants.{Edge, Face}
+use Rattle.zone_walk.specs.Searches.{IsBehind}
 use Rattle.zone_walk.specs.Walk.{IsPartAhead, IsNextOf}
 use Rattle.zone_walk.proofs.Courses.{course, lies_out}
 use Rattle.zone_walk.proofs.Nexts.{size_fits, named_face}
@@ -20,6 +21,10 @@ visit-requires-clause-face g c =
     let k = course s c.requires.search.search.search.ends in
     let part = subst (λ (z : Spot). IsPartAhead v f s p z c.part_ahead-part.result.1) c.in-Face.is c.part_ahead-part.ensures.part in
     named_face v f c.requires.sound s k p (point_is_proper p c.laws.ensures) (lies_out s p c.requires.on) (lt_out p s.upper c.requires.before) c.in-Face.face part.0 part.1
+
+pub visit-requires-clause-entry : goal.visit-requires-clause-entry
+visit-requires-clause-entry g c =
+    subst (λ (x : Point). IsBehind (g.T.NameCalls.graph c.args.sight.now) c.args.looker.now.search.segment x c.part_ahead-part.result.2) (sym c.requires.here) c.part_ahead-part.ensures.entry
 
 pub returns-in_err-visit-in-Face-clause-looks : goal.returns-in_err-visit-in-Face-clause-looks
 returns-in_err-visit-in-Face-clause-looks g c = λ n h.

@@ -26,4 +26,4 @@ returns-in-Vertex-clause-count g c =
     let v = g.T.NameCalls.graph c.args.sight.now in
     let f = g.T.NameCalls.faces c.args.sight.now in
     let h = (subst (IsSpotOf v f c.args.here.now.point) c.in-Vertex.is c.requires.spot).met in
-    subst (λ (p : Point). c.ahead_of_vertex.new.steps ≤ c.args.steps.now + stop_looks v c.args.segment.now p) h.1 c.ahead_of_vertex.ensures.count
+    subst (λ (p : Point). c.ahead_of_vertex-part.new.steps ≤ c.args.steps.now + stop_looks v c.args.segment.now p) h.1 c.ahead_of_vertex-part.ensures.count

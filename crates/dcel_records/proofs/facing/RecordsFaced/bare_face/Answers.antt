@@ -6,13 +6,16 @@ use Rattle.dcel_records.proofs.ListsRead.{bare_key, bare_place, bare_face_read}
 use Rattle.dcel_records.proofs.facing.RecordsFaced.bare_face.Goals as goal
 
 pub index-requires : goal.index-requires
-index-requires c = bare_key c.self.inside.vertices c.self.inside.darts c.self.inside.cycles c.self.inside.faces c.self.inside.moved c.self.inside.order.items c.self.inside.vertex_room c.self.inside.cycle_room c.self.inside.at.whole _ c.self.view_is c.self.invariant.faces c.args.v c.requires
+index-requires c = bare_key c.self.inside _ c.self.view_is c.self.invariant.faces c.args.v c.requires
 
 pub place-requires : goal.place-requires
-place-requires c = bare_place c.self.inside.vertices c.self.inside.darts c.self.inside.cycles c.self.inside.faces c.self.inside.moved c.self.inside.order.items c.self.inside.vertex_room c.self.inside.cycle_room c.self.inside.at.whole _ c.self.view_is c.self.invariant.faces c.args.v c.index.result.now c.requires c.index.ensures
+place-requires c = bare_place c.self.inside _ c.self.view_is c.self.invariant.faces c.args.v c.index.result.now c.requires c.index.ensures
 
 pub returns-clause-face : goal.returns-clause-face
-returns-clause-face c = bare_face_read c.self.inside.vertices c.self.inside.darts c.self.inside.cycles c.self.inside.faces c.self.inside.moved c.self.inside.order.items c.self.inside.vertex_room c.self.inside.cycle_room c.self.inside.at.whole _ c.self.view_is c.self.invariant.faces c.args.v c.index.result.now c.place.result c.index.ensures c.place.ensures
+returns-clause-face c = bare_face_read c.self.inside _ c.self.view_is c.self.invariant.faces c.args.v c.index.result.now c.place.result c.index.ensures c.place.ensures
 
 pub returns-clause-has : goal.returns-clause-has
-returns-clause-has c = subst (λ (a : FaceId). HasFace c.args.self.now.faces.tables a) (sym (bare_face_read c.self.inside.vertices c.self.inside.darts c.self.inside.cycles c.self.inside.faces c.self.inside.moved c.self.inside.order.items c.self.inside.vertex_room c.self.inside.cycle_room c.self.inside.at.whole _ c.self.view_is c.self.invariant.faces c.args.v c.index.result.now c.place.result c.index.ensures c.place.ensures)) (bare_face_there c.self.inside.vertices c.self.inside.darts c.self.inside.cycles c.self.inside.faces c.self.inside.moved c.self.inside.order.items c.self.inside.vertex_room c.self.inside.cycle_room c.self.inside.at.whole _ c.self.view_is c.self.invariant.faces c.args.v c.requires)
+returns-clause-has c =
+    subst (λ (a : FaceId). HasFace c.args.self.now.faces.tables a)
+    (sym (bare_face_read c.self.inside _ c.self.view_is c.self.invariant.faces c.args.v c.index.result.now c.place.result c.index.ensures c.place.ensures))
+    (bare_face_there c.self.inside _ c.self.view_is c.self.invariant.faces c.args.v c.requires)

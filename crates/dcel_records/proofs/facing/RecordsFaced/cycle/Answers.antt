@@ -6,10 +6,10 @@ use Rattle.dcel_records.proofs.OnCycles.{row_cycle_has}
 use Rattle.dcel_records.proofs.facing.RecordsFaced.cycle.Goals as goal
 
 pub index-requires : goal.index-requires
-index-requires c = dart_key c.self.inside.vertices c.self.inside.darts _ (graph_seen c.self.inside.vertices c.self.inside.darts c.self.inside.cycles c.self.inside.faces c.self.inside.moved c.self.inside.order.items c.self.inside.vertex_room c.self.inside.cycle_room c.self.inside.at.whole _ c.self.view_is) c.args.d c.requires
+index-requires c = dart_key c.self.inside.vertices c.self.inside.darts _ (graph_seen c.self.inside _ c.self.view_is) c.args.d c.requires
 
 pub returns-clause-cycle : goal.returns-clause-cycle
-returns-clause-cycle c = ap cycle_or (cycle_read c.self.inside.vertices c.self.inside.darts c.self.inside.cycles c.self.inside.faces c.self.inside.moved c.self.inside.order.items c.self.inside.vertex_room c.self.inside.cycle_room c.self.inside.at.whole _ c.self.view_is c.args.d _ c.index.ensures)
+returns-clause-cycle c = ap cycle_or (cycle_read c.self.inside _ c.self.view_is c.args.d _ c.index.ensures)
 
 pub returns-clause-has : goal.returns-clause-has
-returns-clause-has c = row_cycle_has c.self.inside.vertices c.self.inside.darts c.self.inside.cycles c.self.inside.faces c.self.inside.moved c.self.inside.order.items c.self.inside.vertex_room c.self.inside.cycle_room c.self.inside.at.whole _ c.self.view_is c.self.invariant.on_cycles c.args.d _ c.index.ensures
+returns-clause-has c = row_cycle_has c.self.inside _ c.self.view_is c.self.invariant.on_cycles c.args.d _ c.index.ensures

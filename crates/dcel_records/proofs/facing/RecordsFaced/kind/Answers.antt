@@ -5,7 +5,7 @@ use Rattle.dcel_records.proofs.ListsRead.{cycle_row_read}
 use Rattle.dcel_records.proofs.facing.RecordsFaced.kind.Goals as goal
 
 pub index-requires : goal.index-requires
-index-requires c = cycle_key c.self.inside.vertices c.self.inside.darts c.self.inside.cycles c.self.inside.faces c.self.inside.moved c.self.inside.order.items c.self.inside.vertex_room c.self.inside.cycle_room c.self.inside.at.whole _ c.self.view_is c.self.invariant.faces c.args.c c.requires
+index-requires c = cycle_key c.self.inside _ c.self.view_is c.self.invariant.faces c.args.c c.requires
 
 pub returns : goal.returns
-returns c = ap kind_or (cycle_row_read c.self.inside.vertices c.self.inside.darts c.self.inside.cycles c.self.inside.faces c.self.inside.moved c.self.inside.order.items c.self.inside.vertex_room c.self.inside.cycle_room c.self.inside.at.whole _ c.self.view_is c.self.invariant.faces c.args.c c.index.result.now c.index.ensures)
+returns c = ap kind_or (cycle_row_read c.self.inside _ c.self.view_is c.self.invariant.faces c.args.c c.index.result.now c.index.ensures)

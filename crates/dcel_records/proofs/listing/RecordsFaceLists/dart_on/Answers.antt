@@ -3,7 +3,7 @@ use Rattle.dcel_records.proofs.ListsRead.{dart_read}
 use Rattle.dcel_records.proofs.listing.RecordsFaceLists.dart_on.Goals as goal
 
 pub index-requires : goal.index-requires
-index-requires c = cycle_key c.self.inside.vertices c.self.inside.darts c.self.inside.cycles c.self.inside.faces c.self.inside.moved c.self.inside.order.items c.self.inside.vertex_room c.self.inside.cycle_room c.self.inside.at.whole _ c.self.view_is c.self.invariant.faces c.args.cycle c.requires
+index-requires c = cycle_key c.self.inside _ c.self.view_is c.self.invariant.faces c.args.cycle c.requires
 
 pub returns : goal.returns
-returns c = dart_read c.self.inside.vertices c.self.inside.darts c.self.inside.cycles c.self.inside.faces c.self.inside.moved c.self.inside.order.items c.self.inside.vertex_room c.self.inside.cycle_room c.self.inside.at.whole _ c.self.view_is c.self.invariant.faces c.args.cycle c.index.result.now c.index.ensures
+returns c = dart_read c.self.inside _ c.self.view_is c.self.invariant.faces c.args.cycle c.index.result.now c.index.ensures

@@ -4,7 +4,7 @@ use Rattle.dcel_records.proofs.ListsRead.{first_bare_read}
 use Rattle.dcel_records.proofs.listing.RecordsFaceLists.first_isolated_in.Goals as goal
 
 pub index-requires : goal.index-requires
-index-requires c = face_key c.self.inside.vertices c.self.inside.darts c.self.inside.cycles c.self.inside.faces c.self.inside.moved c.self.inside.order.items c.self.inside.vertex_room c.self.inside.cycle_room c.self.inside.at.whole _ c.self.view_is c.args.face c.requires
+index-requires c = face_key c.self.inside _ c.self.view_is c.args.face c.requires
 
 pub returns : goal.returns
-returns c = c.vertex_named.ensures ∙ first_bare_read c.self.inside.vertices c.self.inside.darts c.self.inside.cycles c.self.inside.faces c.self.inside.moved c.self.inside.order.items c.self.inside.vertex_room c.self.inside.cycle_room c.self.inside.at.whole _ c.self.view_is c.self.invariant.faces c.args.face c.index.result.now c.index.ensures
+returns c = c.vertex_named.ensures ∙ first_bare_read c.self.inside _ c.self.view_is c.self.invariant.faces c.args.face c.index.result.now c.index.ensures

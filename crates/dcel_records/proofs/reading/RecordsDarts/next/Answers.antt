@@ -3,7 +3,7 @@ use Rattle.dcel_records.proofs.Holding.{dart_key, next_is}
 use Rattle.dcel_records.proofs.reading.RecordsDarts.next.Goals as goal
 
 pub index-requires : goal.index-requires
-index-requires c = dart_key c.self.inside.vertices c.self.inside.darts _ (graph_seen c.self.inside.vertices c.self.inside.darts c.self.inside.cycles c.self.inside.faces c.self.inside.moved c.self.inside.order.items c.self.inside.vertex_room c.self.inside.cycle_room c.self.inside.at.whole _ c.self.view_is) c.args.d c.requires
+index-requires c = dart_key c.self.inside.vertices c.self.inside.darts _ (graph_seen c.self.inside _ c.self.view_is) c.args.d c.requires
 
 pub returns : goal.returns
-returns c = next_is c.self.inside.vertices c.self.inside.darts _ (graph_seen c.self.inside.vertices c.self.inside.darts c.self.inside.cycles c.self.inside.faces c.self.inside.moved c.self.inside.order.items c.self.inside.vertex_room c.self.inside.cycle_room c.self.inside.at.whole _ c.self.view_is) c.args.d _ c.index.ensures
+returns c = next_is c.self.inside.vertices c.self.inside.darts _ (graph_seen c.self.inside _ c.self.view_is) c.args.d _ c.index.ensures

@@ -7,10 +7,14 @@ use Rattle.dcel_records.proofs.Leaving.{out_some, out_none}
 use Rattle.dcel_records.proofs.reading.RecordsDarts.out_of.Goals as goal
 
 pub index-requires : goal.index-requires
-index-requires c = vertex_key c.self.inside.vertices c.self.inside.darts _ (graph_seen c.self.inside.vertices c.self.inside.darts c.self.inside.cycles c.self.inside.faces c.self.inside.moved c.self.inside.order.items c.self.inside.vertex_room c.self.inside.cycle_room c.self.inside.at.whole _ c.self.view_is) c.args.v c.requires
+index-requires c = vertex_key c.self.inside.vertices c.self.inside.darts _ (graph_seen c.self.inside _ c.self.view_is) c.args.v c.requires
 
 pub returns-clause-some : goal.returns-clause-some
-returns-clause-some c = out_some c.args.self.now.graph c.args.v _ (subst (λ o. IsOut c.args.self.now.graph c.args.v o) (ap out_or c.index.ensures) (outs c.self.inside.vertices c.self.inside.darts _ (graph_seen c.self.inside.vertices c.self.inside.darts c.self.inside.cycles c.self.inside.faces c.self.inside.moved c.self.inside.order.items c.self.inside.vertex_room c.self.inside.cycle_room c.self.inside.at.whole _ c.self.view_is) c.self.invariant.graph.rows c.args.v))
+returns-clause-some c =
+    out_some c.args.self.now.graph c.args.v _
+    (subst (λ o. IsOut c.args.self.now.graph c.args.v o) (ap out_or c.index.ensures) (outs c.self.inside.vertices c.self.inside.darts _ (graph_seen c.self.inside _ c.self.view_is) c.self.invariant.graph.rows c.args.v))
 
 pub returns-clause-none : goal.returns-clause-none
-returns-clause-none c = out_none c.args.self.now.graph c.args.v _ (subst (λ o. IsOut c.args.self.now.graph c.args.v o) (ap out_or c.index.ensures) (outs c.self.inside.vertices c.self.inside.darts _ (graph_seen c.self.inside.vertices c.self.inside.darts c.self.inside.cycles c.self.inside.faces c.self.inside.moved c.self.inside.order.items c.self.inside.vertex_room c.self.inside.cycle_room c.self.inside.at.whole _ c.self.view_is) c.self.invariant.graph.rows c.args.v))
+returns-clause-none c =
+    out_none c.args.self.now.graph c.args.v _
+    (subst (λ o. IsOut c.args.self.now.graph c.args.v o) (ap out_or c.index.ensures) (outs c.self.inside.vertices c.self.inside.darts _ (graph_seen c.self.inside _ c.self.view_is) c.self.invariant.graph.rows c.args.v))

@@ -6,7 +6,8 @@ use Rattle.dcel_records.proofs.records.Records.add_face.Goals as goal
 pub invariant_of-self : goal.invariant_of-self
 invariant_of-self c = record {
   graph = c.self.invariant.graph;
-  faces = face_more_sound c.self.inside.vertices c.self.inside.darts c.self.inside.cycles c.self.inside.faces c.self.inside.moved c.self.inside.order.items c.self.inside.vertex_room c.self.inside.cycle_room c.self.inside.at.whole _ c.self.view_is c.self.invariant.faces c.insert_reserved.new.self c.insert_reserved.result c.no_rows_of_face.result c.insert_reserved.ensures.was_vacant c.insert_reserved.ensures.updates c.no_rows_of_face.ensures.cycle c.no_rows_of_face.ensures.bare;
+  faces = face_more_sound c.self.inside _ c.self.view_is c.self.invariant.faces c.insert_reserved.new.self c.insert_reserved.result c.no_rows_of_face.result
+      c.insert_reserved.ensures.was_vacant c.insert_reserved.ensures.updates c.no_rows_of_face.ensures.cycle c.no_rows_of_face.ensures.bare;
   vertex_room = c.self.invariant.vertex_room;
   cycle_room = c.self.invariant.cycle_room;
   on_cycles = c.self.invariant.on_cycles;
@@ -17,10 +18,15 @@ invariant_of-self c = record {
 }
 
 pub returns-clause-name : goal.returns-clause-name
-returns-clause-name c = face_new c.self.inside.vertices c.self.inside.darts c.self.inside.cycles c.self.inside.faces c.self.inside.moved c.self.inside.order.items c.self.inside.vertex_room c.self.inside.cycle_room c.self.inside.at.whole _ c.self.view_is c.self.invariant.faces (face_id c.insert_reserved.result) c.insert_reserved.ensures.was_vacant
+returns-clause-name c = face_new c.self.inside _ c.self.view_is c.self.invariant.faces (face_id c.insert_reserved.result) c.insert_reserved.ensures.was_vacant
 
 pub returns-clause-tables : goal.returns-clause-tables
-returns-clause-tables c = face_more_tables c.self.inside.vertices c.self.inside.darts c.self.inside.cycles c.self.inside.faces c.self.inside.moved c.self.inside.order.items c.self.inside.vertex_room c.self.inside.cycle_room c.self.inside.at.whole _ c.self.view_is c.self.invariant.faces c.insert_reserved.new.self c.insert_reserved.result c.no_rows_of_face.result c.insert_reserved.ensures.was_vacant c.insert_reserved.ensures.updates c.no_rows_of_face.ensures.cycle c.no_rows_of_face.ensures.bare
+returns-clause-tables c =
+    face_more_tables c.self.inside _ c.self.view_is c.self.invariant.faces c.insert_reserved.new.self c.insert_reserved.result c.no_rows_of_face.result
+    c.insert_reserved.ensures.was_vacant c.insert_reserved.ensures.updates c.no_rows_of_face.ensures.cycle c.no_rows_of_face.ensures.bare
 
 pub returns-clause-lists : goal.returns-clause-lists
-returns-clause-lists c = lists_after c.self.inside.vertices c.self.inside.darts c.self.inside.cycles c.self.inside.faces c.self.inside.moved c.self.inside.order.items c.self.inside.vertex_room c.self.inside.cycle_room c.self.inside.at.whole _ c.self.view_is c.self.inside.vertices c.self.inside.darts c.self.inside.cycles c.insert_reserved.new.self c.self.inside.moved c.self.inside.order.items c.self.inside.vertex_room c.self.inside.cycle_room (λ l. l) (face_more_lists c.self.inside.vertices c.self.inside.darts c.self.inside.cycles c.self.inside.faces c.self.inside.moved c.self.inside.order.items c.self.inside.vertex_room c.self.inside.cycle_room c.self.inside.at.whole _ c.self.view_is c.self.invariant.faces c.insert_reserved.new.self c.insert_reserved.result c.no_rows_of_face.result c.insert_reserved.ensures.was_vacant c.insert_reserved.ensures.updates c.no_rows_of_face.ensures.cycle c.no_rows_of_face.ensures.bare)
+returns-clause-lists c =
+    lists_after c.self.inside _ c.self.view_is c.self.inside.vertices c.self.inside.cycles c.insert_reserved.new.self (λ l. l)
+    (face_more_lists c.self.inside _ c.self.view_is c.self.invariant.faces c.insert_reserved.new.self c.insert_reserved.result c.no_rows_of_face.result c.insert_reserved.ensures.was_vacant
+    c.insert_reserved.ensures.updates c.no_rows_of_face.ensures.cycle c.no_rows_of_face.ensures.bare)

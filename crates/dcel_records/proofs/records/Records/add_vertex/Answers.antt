@@ -26,7 +26,10 @@ pub returns-clause-spare : goal.returns-clause-spare
 returns-clause-spare c =
     let new = c.set_bare.new.self in
     let e = c.add_vertex_on_edge-v.ensures.spare in
-    subst (λ (h : GraphView). IsSpare (record new { graph = h.graph; spare_vertices = h.spare_vertices; spare_darts = h.spare_darts; capacity_of_vertices = h.capacity_of_vertices; capacity_of_darts = h.capacity_of_darts }) c.args.self.now 1 0) (sym c.set_bare.ensures.graph) (record { of_vertices = e.of_vertices; of_darts = e.of_darts; capacity_of_vertices = e.capacity_of_vertices; capacity_of_darts = e.capacity_of_darts })
+    subst
+    (λ (h : GraphView). IsSpare (record new { graph = h.graph; spare_vertices = h.spare_vertices; spare_darts = h.spare_darts; capacity_of_vertices = h.capacity_of_vertices; capacity_of_darts = h.capacity_of_darts }) c.args.self.now 1 0)
+    (sym c.set_bare.ensures.graph)
+    (record { of_vertices = e.of_vertices; of_darts = e.of_darts; capacity_of_vertices = e.capacity_of_vertices; capacity_of_darts = e.capacity_of_darts })
 
 pub returns-clause-tables : goal.returns-clause-tables
 returns-clause-tables c = c.set_bare.ensures.tables ∙ ap (λ (f : FacesView). bare_in c.add_vertex_on_edge-v.result c.args.face f.tables) c.add_vertex_on_edge-v.ensures.faces

@@ -3,7 +3,7 @@ use Rattle.dcel_records.proofs.OnCycles.{area_covers}
 use Rattle.dcel_records.proofs.records.Records.area.Goals as goal
 
 pub index-requires : goal.index-requires
-index-requires c = cycle_key c.self.inside.vertices c.self.inside.darts c.self.inside.cycles c.self.inside.faces c.self.inside.moved c.self.inside.order.items c.self.inside.vertex_room c.self.inside.cycle_room c.self.inside.at.whole _ c.self.view_is c.self.invariant.faces c.args.c c.requires
+index-requires c = cycle_key c.self.inside _ c.self.view_is c.self.invariant.faces c.args.c c.requires
 
 pub returns : goal.returns
-returns c = area_covers c.self.inside.vertices c.self.inside.darts c.self.inside.cycles c.self.inside.faces c.self.inside.moved c.self.inside.order.items c.self.inside.vertex_room c.self.inside.cycle_room c.self.inside.at.whole _ c.self.view_is c.self.invariant.on_cycles c.self.invariant.marked c.args.c _ c.index.ensures
+returns c = area_covers c.self.inside _ c.self.view_is c.self.invariant.on_cycles c.self.invariant.marked c.args.c _ c.index.ensures

@@ -12,7 +12,7 @@ pub leave_face-requires-clause-chained : goal.leave_face-requires-clause-chained
 leave_face-requires-clause-chained c = c.self.invariant.faces.bare
 
 pub leave_face-requires-clause-has : goal.leave_face-requires-clause-has
-leave_face-requires-clause-has c = vertex_key c.self.inside.vertices c.self.inside.darts _ (graph_seen c.self.inside.vertices c.self.inside.darts c.self.inside.cycles c.self.inside.faces c.self.inside.moved c.self.inside.order.items c.self.inside.vertex_room c.self.inside.cycle_room c.self.inside.at.whole _ c.self.view_is) c.args.v c.requires
+leave_face-requires-clause-has c = vertex_key c.self.inside.vertices c.self.inside.darts _ (graph_seen c.self.inside _ c.self.view_is) c.args.v c.requires
 
 pub leave_face-requires-clause-counted : goal.leave_face-requires-clause-counted
 leave_face-requires-clause-counted c = c.self.invariant.isolated
@@ -20,7 +20,7 @@ leave_face-requires-clause-counted c = c.self.invariant.isolated
 pub invariant_of-self : goal.invariant_of-self
 invariant_of-self c = record {
   graph = graph_sound c.self.inside.vertices c.leave_face.new.vertices c.self.inside.darts c.leave_face.ensures.left.kept.rests _ c.self.invariant.graph;
-  faces = left_sound c.self.inside.vertices c.self.inside.darts c.self.inside.cycles c.self.inside.faces c.self.inside.moved c.self.inside.order.items c.self.inside.vertex_room c.self.inside.cycle_room c.self.inside.at.whole _ c.self.view_is c.self.invariant.faces c.args.v c.leave_face.new.vertices c.leave_face.new.faces c.leave_face.ensures.left;
+  faces = left_sound c.self.inside _ c.self.view_is c.self.invariant.faces c.args.v c.leave_face.new.vertices c.leave_face.new.faces c.leave_face.ensures.left;
   vertex_room = room_same c.self.inside.vertex_room c.self.inside.vertices c.leave_face.new.vertices c.self.invariant.vertex_room c.leave_face.ensures.left.kept.len c.leave_face.ensures.left.kept.capacity;
   cycle_room = c.self.invariant.cycle_room;
   on_cycles = c.self.invariant.on_cycles;
@@ -31,10 +31,12 @@ invariant_of-self c = record {
 }
 
 pub returns-clause-tables : goal.returns-clause-tables
-returns-clause-tables c = left_tables c.self.inside.vertices c.self.inside.darts c.self.inside.cycles c.self.inside.faces c.self.inside.moved c.self.inside.order.items c.self.inside.vertex_room c.self.inside.cycle_room c.self.inside.at.whole _ c.self.view_is c.self.invariant.faces c.args.v c.leave_face.new.vertices c.leave_face.new.faces c.leave_face.ensures.left
+returns-clause-tables c = left_tables c.self.inside _ c.self.view_is c.self.invariant.faces c.args.v c.leave_face.new.vertices c.leave_face.new.faces c.leave_face.ensures.left
 
 pub returns-clause-lists : goal.returns-clause-lists
-returns-clause-lists c = lists_after c.self.inside.vertices c.self.inside.darts c.self.inside.cycles c.self.inside.faces c.self.inside.moved c.self.inside.order.items c.self.inside.vertex_room c.self.inside.cycle_room c.self.inside.at.whole _ c.self.view_is c.leave_face.new.vertices c.self.inside.darts c.self.inside.cycles c.leave_face.new.faces c.self.inside.moved c.self.inside.order.items c.self.inside.vertex_room c.self.inside.cycle_room (vertex_unlisted c.args.v) (left_lists c.self.inside.vertices c.self.inside.darts c.self.inside.cycles c.self.inside.faces c.self.inside.moved c.self.inside.order.items c.self.inside.vertex_room c.self.inside.cycle_room c.self.inside.at.whole _ c.self.view_is c.self.invariant.faces c.args.v c.leave_face.new.vertices c.leave_face.new.faces c.leave_face.ensures.left)
+returns-clause-lists c =
+    lists_after c.self.inside _ c.self.view_is c.leave_face.new.vertices c.self.inside.cycles c.leave_face.new.faces (vertex_unlisted c.args.v)
+    (left_lists c.self.inside _ c.self.view_is c.self.invariant.faces c.args.v c.leave_face.new.vertices c.leave_face.new.faces c.leave_face.ensures.left)
 
 pub returns-clause-spare : goal.returns-clause-spare
 returns-clause-spare c =
@@ -47,4 +49,4 @@ returns-clause-spare c =
     record { of_cycles = omega arith; of_faces = omega arith; capacity_of_cycles = omega arith; capacity_of_faces = omega arith }
 
 pub returns-clause-graph : goal.returns-clause-graph
-returns-clause-graph c = graph_part_same c.self.inside.vertices c.leave_face.new.vertices c.self.inside.darts c.leave_face.ensures.left.kept.rests c.self.inside.cycles c.self.inside.cycles c.self.inside.faces c.leave_face.new.faces c.self.inside.moved c.self.inside.moved c.self.inside.order.items c.self.inside.vertex_room c.self.inside.cycle_room c.self.inside.cycle_room c.self.inside.at.whole _ c.self.view_is c.leave_face.ensures.left.kept.len
+returns-clause-graph c = graph_part_same c.self.inside c.leave_face.new.vertices c.leave_face.ensures.left.kept.rests _ c.self.view_is c.leave_face.ensures.left.kept.len

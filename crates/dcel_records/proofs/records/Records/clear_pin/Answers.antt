@@ -12,13 +12,13 @@ use Rattle.dcel_records.proofs.Marked.{marked_written}
 use Rattle.dcel_records.proofs.records.Records.clear_pin.Goals as goal
 
 pub index-requires : goal.index-requires
-index-requires c = vertex_key c.self.inside.vertices c.self.inside.darts _ (graph_seen c.self.inside.vertices c.self.inside.darts c.self.inside.cycles c.self.inside.faces c.self.inside.moved c.self.inside.order.items c.self.inside.vertex_room c.self.inside.cycle_room c.self.inside.at.whole _ c.self.view_is) c.args.v c.requires
+index-requires c = vertex_key c.self.inside.vertices c.self.inside.darts _ (graph_seen c.self.inside _ c.self.view_is) c.args.v c.requires
 
 pub returns-then-not-index-clause-graph : goal.returns-then-not-index-clause-graph
-returns-then-not-index-clause-graph c = pin_same c.self.inside.vertices c.self.inside.darts _ (graph_seen c.self.inside.vertices c.self.inside.darts c.self.inside.cycles c.self.inside.faces c.self.inside.moved c.self.inside.order.items c.self.inside.vertex_room c.self.inside.cycle_room c.self.inside.at.whole _ c.self.view_is) c.args.v false _ c.index.ensures c.if-not-index.true
+returns-then-not-index-clause-graph c = pin_same c.self.inside.vertices c.self.inside.darts _ (graph_seen c.self.inside _ c.self.view_is) c.args.v false _ c.index.ensures c.if-not-index.true
 
 pub index_mut-requires : goal.index_mut-requires
-index_mut-requires c = vertex_key c.self.inside.vertices c.self.inside.darts _ (graph_seen c.self.inside.vertices c.self.inside.darts c.self.inside.cycles c.self.inside.faces c.self.inside.moved c.self.inside.order.items c.self.inside.vertex_room c.self.inside.cycle_room c.self.inside.at.whole _ c.self.view_is) c.args.v c.requires
+index_mut-requires c = vertex_key c.self.inside.vertices c.self.inside.darts _ (graph_seen c.self.inside _ c.self.view_is) c.args.v c.requires
 
 pub overflow_sub-self : goal.overflow_sub-self
 overflow_sub-self c =
@@ -29,11 +29,11 @@ overflow_sub-self c =
 pub invariant_of-self : goal.invariant_of-self
 invariant_of-self c = record {
   graph = record {
-    rows = pin_kept c.self.inside.vertices c.self.inside.darts _ (graph_seen c.self.inside.vertices c.self.inside.darts c.self.inside.cycles c.self.inside.faces c.self.inside.moved c.self.inside.order.items c.self.inside.vertex_room c.self.inside.cycle_room c.self.inside.at.whole _ c.self.view_is) c.self.invariant.graph.rows c.args.v false _ c.index_mut.ensures.value;
+    rows = pin_kept c.self.inside.vertices c.self.inside.darts _ (graph_seen c.self.inside _ c.self.view_is) c.self.invariant.graph.rows c.args.v false _ c.index_mut.ensures.value;
     mapped = pin_mapped _ c.self.inside.vertices c.args.v.0 false _ c.index_mut.ensures.value c.self.invariant.graph.mapped;
     counted = let k = c.self.invariant.graph.counted in let m = pin_less c.self.inside.vertices c.args.v.0 _ _ c.index.ensures c.index_mut.ensures.value c.if-not-index.false in omega arith;
   };
-  faces = faces_sound c.self.inside.vertices c.self.inside.darts c.self.inside.cycles c.self.inside.faces c.self.inside.moved c.self.inside.order.items c.self.inside.vertex_room c.self.inside.cycle_room c.self.inside.at.whole c.args.self.now c.self.view_is c.self.invariant.faces _ (nodes_written c.self.inside.vertices _ _ _ c.index_mut.ensures.value refl);
+  faces = faces_sound c.self.inside c.args.self.now c.self.view_is c.self.invariant.faces _ (nodes_written c.self.inside.vertices _ _ _ c.index_mut.ensures.value refl);
   vertex_room = room_same c.self.inside.vertex_room c.self.inside.vertices _ c.self.invariant.vertex_room (len_written c.self.inside.vertices _ _ _ c.index_mut.ensures.value) refl;
   cycle_room = c.self.invariant.cycle_room;
   on_cycles = c.self.invariant.on_cycles;
@@ -44,7 +44,7 @@ invariant_of-self c = record {
 }
 
 pub returns-clause-graph : goal.returns-clause-graph
-returns-clause-graph c = pin_graph c.self.inside.vertices c.self.inside.darts _ (graph_seen c.self.inside.vertices c.self.inside.darts c.self.inside.cycles c.self.inside.faces c.self.inside.moved c.self.inside.order.items c.self.inside.vertex_room c.self.inside.cycle_room c.self.inside.at.whole _ c.self.view_is) c.args.v false _ c.index_mut.ensures.value
+returns-clause-graph c = pin_graph c.self.inside.vertices c.self.inside.darts _ (graph_seen c.self.inside _ c.self.view_is) c.args.v false _ c.index_mut.ensures.value
 
 pub returns-clause-faces : goal.returns-clause-faces
-returns-clause-faces c = faces_column c.self.inside.vertices c.self.inside.darts c.self.inside.cycles c.self.inside.faces c.self.inside.moved c.self.inside.order.items c.self.inside.vertex_room c.self.inside.cycle_room c.self.inside.at.whole c.args.self.now c.self.view_is c.self.invariant.faces _ (nodes_written c.self.inside.vertices _ _ _ c.index_mut.ensures.value refl) (λ xs. xs) c.self.inside.darts refl
+returns-clause-faces c = faces_column c.self.inside c.args.self.now c.self.view_is c.self.invariant.faces _ (nodes_written c.self.inside.vertices _ _ _ c.index_mut.ensures.value refl) (λ xs. xs) c.self.inside.darts refl

@@ -13,24 +13,31 @@ pub unlink-requires-clause-chained : goal.unlink-requires-clause-chained
 unlink-requires-clause-chained c = c.self.invariant.faces.cycles
 
 pub unlink-requires-clause-has : goal.unlink-requires-clause-has
-unlink-requires-clause-has c = cycle_node c.self.inside.vertices c.self.inside.darts c.self.inside.cycles c.self.inside.faces c.self.inside.moved c.self.inside.order.items c.self.inside.vertex_room c.self.inside.cycle_room c.self.inside.at.whole _ c.self.view_is c.self.invariant.faces c.args.c c.requires.cycle
+unlink-requires-clause-has c = cycle_node c.self.inside _ c.self.view_is c.self.invariant.faces c.args.c c.requires.cycle
 
 pub link_first-requires-clause-chained : goal.link_first-requires-clause-chained
 link_first-requires-clause-chained c = c.unlink.ensures.chained
 
 pub link_first-requires-clause-has : goal.link_first-requires-clause-has
-link_first-requires-clause-has c = cycle_there c.self.inside.cycles c.unlink.new.rows c.self.inside.faces c.unlink.new.faces c.unlink.ensures.kept c.args.c.0 (cycle_key c.self.inside.vertices c.self.inside.darts c.self.inside.cycles c.self.inside.faces c.self.inside.moved c.self.inside.order.items c.self.inside.vertex_room c.self.inside.cycle_room c.self.inside.at.whole _ c.self.view_is c.self.invariant.faces c.args.c c.requires.cycle)
+link_first-requires-clause-has c =
+    cycle_there c.self.inside.cycles c.unlink.new.rows c.self.inside.faces c.unlink.new.faces c.unlink.ensures.kept c.args.c.0
+    (cycle_key c.self.inside _ c.self.view_is c.self.invariant.faces c.args.c c.requires.cycle)
 
 pub link_first-requires-clause-face : goal.link_first-requires-clause-face
-link_first-requires-clause-face c = face_there c.self.inside.cycles c.unlink.new.rows c.self.inside.faces c.unlink.new.faces c.unlink.ensures.kept c.args.face.0 (face_key c.self.inside.vertices c.self.inside.darts c.self.inside.cycles c.self.inside.faces c.self.inside.moved c.self.inside.order.items c.self.inside.vertex_room c.self.inside.cycle_room c.self.inside.at.whole _ c.self.view_is c.args.face c.requires.face)
+link_first-requires-clause-face c = face_there c.self.inside.cycles c.unlink.new.rows c.self.inside.faces c.unlink.new.faces c.unlink.ensures.kept c.args.face.0 (face_key c.self.inside _ c.self.view_is c.args.face c.requires.face)
 
 pub invariant_of-self : goal.invariant_of-self
 invariant_of-self c = record {
   graph = c.self.invariant.graph;
-  faces = moved_sound c.self.inside.vertices c.self.inside.darts c.self.inside.cycles c.self.inside.faces c.self.inside.moved c.self.inside.order.items c.self.inside.vertex_room c.self.inside.cycle_room c.self.inside.at.whole _ c.self.view_is c.self.invariant.faces c.args.c.0 c.unlink.new.rows c.unlink.new.faces c.unlink.ensures c.args.face c.link_first.new.rows c.link_first.new.faces c.link_first.ensures;
+  faces = moved_sound c.self.inside _ c.self.view_is c.self.invariant.faces c.args.c.0 c.unlink.new.rows c.unlink.new.faces c.unlink.ensures c.args.face c.link_first.new.rows c.link_first.new.faces c.link_first.ensures;
   vertex_room = c.self.invariant.vertex_room;
-  cycle_room = room_same c.self.inside.cycle_room c.self.inside.cycles c.link_first.new.rows c.self.invariant.cycle_room (c.link_first.ensures.kept.len ∙ c.unlink.ensures.kept.len) (c.link_first.ensures.kept.capacity ∙ c.unlink.ensures.kept.capacity);
-  on_cycles = on_kept c.self.inside.darts c.self.inside.cycles c.link_first.new.rows (λ n p. parts_same (get c.self.inside.cycles n) (get c.link_first.new.rows n) (areas_stay c.unlink.new.rows c.link_first.new.rows c.unlink.new.faces c.link_first.new.faces c.link_first.ensures.kept n ∙ areas_stay c.self.inside.cycles c.unlink.new.rows c.self.inside.faces c.unlink.new.faces c.unlink.ensures.kept n) p) c.self.invariant.on_cycles;
+  cycle_room = room_same c.self.inside.cycle_room c.self.inside.cycles c.link_first.new.rows c.self.invariant.cycle_room (c.link_first.ensures.kept.len ∙ c.unlink.ensures.kept.len)
+      (c.link_first.ensures.kept.capacity ∙ c.unlink.ensures.kept.capacity);
+  on_cycles = on_kept c.self.inside.darts c.self.inside.cycles c.link_first.new.rows
+      (λ n p. parts_same (get c.self.inside.cycles n) (get c.link_first.new.rows n)
+      (areas_stay c.unlink.new.rows c.link_first.new.rows c.unlink.new.faces c.link_first.new.faces c.link_first.ensures.kept n
+      ∙ areas_stay c.self.inside.cycles c.unlink.new.rows c.self.inside.faces c.unlink.new.faces c.unlink.ensures.kept n) p)
+      c.self.invariant.on_cycles;
   marked = c.self.invariant.marked;
   moved = c.self.invariant.moved;
   isolated = c.self.invariant.isolated;
@@ -38,10 +45,15 @@ invariant_of-self c = record {
 }
 
 pub returns-clause-tables : goal.returns-clause-tables
-returns-clause-tables c = moved_tables c.self.inside.vertices c.self.inside.darts c.self.inside.cycles c.self.inside.faces c.self.inside.moved c.self.inside.order.items c.self.inside.vertex_room c.self.inside.cycle_room c.self.inside.at.whole _ c.self.view_is c.self.invariant.faces c.args.c.0 c.unlink.new.rows c.unlink.new.faces c.unlink.ensures c.args.face c.link_first.new.rows c.link_first.new.faces c.link_first.ensures (kind_in c.args.self.now.faces.tables c.args.c) (kind_found c.self.inside.vertices c.self.inside.darts c.self.inside.cycles c.self.inside.faces c.self.inside.moved c.self.inside.order.items c.self.inside.vertex_room c.self.inside.cycle_room c.self.inside.at.whole _ c.self.view_is c.self.invariant.faces c.args.c c.requires.cycle)
+returns-clause-tables c =
+    moved_tables c.self.inside _ c.self.view_is c.self.invariant.faces c.args.c.0 c.unlink.new.rows c.unlink.new.faces c.unlink.ensures c.args.face c.link_first.new.rows
+    c.link_first.new.faces c.link_first.ensures (kind_in c.args.self.now.faces.tables c.args.c)
+    (kind_found c.self.inside _ c.self.view_is c.self.invariant.faces c.args.c c.requires.cycle)
 
 pub returns-clause-lists : goal.returns-clause-lists
-returns-clause-lists c = lists_after c.self.inside.vertices c.self.inside.darts c.self.inside.cycles c.self.inside.faces c.self.inside.moved c.self.inside.order.items c.self.inside.vertex_room c.self.inside.cycle_room c.self.inside.at.whole _ c.self.view_is c.self.inside.vertices c.self.inside.darts c.link_first.new.rows c.link_first.new.faces c.self.inside.moved c.self.inside.order.items c.self.inside.vertex_room c.self.inside.cycle_room (cycle_relisted c.args.c c.args.face) (moved_lists c.self.inside.vertices c.self.inside.darts c.self.inside.cycles c.self.inside.faces c.self.inside.moved c.self.inside.order.items c.self.inside.vertex_room c.self.inside.cycle_room c.self.inside.at.whole _ c.self.view_is c.self.invariant.faces c.args.c.0 c.unlink.new.rows c.unlink.new.faces c.unlink.ensures c.args.face c.link_first.new.rows c.link_first.new.faces c.link_first.ensures)
+returns-clause-lists c =
+    lists_after c.self.inside _ c.self.view_is c.self.inside.vertices c.link_first.new.rows c.link_first.new.faces (cycle_relisted c.args.c c.args.face)
+    (moved_lists c.self.inside _ c.self.view_is c.self.invariant.faces c.args.c.0 c.unlink.new.rows c.unlink.new.faces c.unlink.ensures c.args.face c.link_first.new.rows c.link_first.new.faces c.link_first.ensures)
 
 pub returns-clause-spare : goal.returns-clause-spare
 returns-clause-spare c =

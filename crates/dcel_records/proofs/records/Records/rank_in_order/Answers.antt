@@ -18,12 +18,12 @@ pub give_ranks-requires-clause-keys : goal.give_ranks-requires-clause-keys
 give_ranks-requires-clause-keys c =
     let had = subst (AllByRecursion (λ k. HasFace c.args.self.now.faces.tables k.face)) (sym (ap (λ v. v.ranks.order) c.self.view_is)) c.requires in
     subst (AllByRecursion (λ (k : RankKey). ContainsKey c.self.inside.faces k.face.0)) (sym c.deref.ensures.value)
-    (all_permuted _ _ c.self.inside.order.items c.sort_unstable.new.self.items c.sort_unstable.ensures.permutation (λ k h. face_key c.self.inside.vertices c.self.inside.darts c.self.inside.cycles c.self.inside.faces c.self.inside.moved c.self.inside.order.items c.self.inside.vertex_room c.self.inside.cycle_room c.self.inside.at.whole _ c.self.view_is k.face h) had)
+    (all_permuted _ _ c.self.inside.order.items c.sort_unstable.new.self.items c.sort_unstable.ensures.permutation (λ k h. face_key c.self.inside _ c.self.view_is k.face h) had)
 
 pub invariant_of-self : goal.invariant_of-self
 invariant_of-self c = record {
   graph = c.self.invariant.graph;
-  faces = reranked_sound c.self.inside.faces c.give_ranks.new.faces c.give_ranks.ensures.kept c.self.inside.vertices c.self.inside.darts c.self.inside.cycles c.self.inside.moved c.self.inside.order.items c.self.inside.vertex_room c.self.inside.cycle_room c.self.inside.at.whole _ c.self.view_is c.self.invariant.faces;
+  faces = reranked_sound c.self.inside c.give_ranks.new.faces c.give_ranks.ensures.kept _ c.self.view_is c.self.invariant.faces;
   vertex_room = c.self.invariant.vertex_room;
   cycle_room = c.self.invariant.cycle_room;
   on_cycles = c.self.invariant.on_cycles;
@@ -44,7 +44,7 @@ returns-clause-ranked c d =
     (subst (λ (ks : List RankKey). AreRanked (rank_at c.give_ranks.new.faces) 1 ks) c.deref.ensures.value (c.give_ranks.ensures.ranked (subst (IsDistinct same_face) (sym c.deref.ensures.value) has)))
 
 pub returns-clause-faces : goal.returns-clause-faces
-returns-clause-faces c = reranked_faces c.self.inside.faces c.give_ranks.new.faces c.give_ranks.ensures.kept c.self.inside.vertices c.self.inside.darts c.self.inside.cycles c.self.inside.moved c.self.inside.order.items c.self.inside.vertex_room c.self.inside.cycle_room c.self.inside.at.whole _ c.self.view_is c.self.invariant.faces
+returns-clause-faces c = reranked_faces c.self.inside c.give_ranks.new.faces c.give_ranks.ensures.kept _ c.self.view_is c.self.invariant.faces
 
 pub returns-clause-unbounded : goal.returns-clause-unbounded
 returns-clause-unbounded c d =

@@ -5,7 +5,7 @@ use Rattle.dcel_records.proofs.Relinked.{face_key}
 use Rattle.dcel_records.proofs.records.Records.rank_of.Goals as goal
 
 pub index-requires : goal.index-requires
-index-requires c = face_key c.self.inside.vertices c.self.inside.darts c.self.inside.cycles c.self.inside.faces c.self.inside.moved c.self.inside.order.items c.self.inside.vertex_room c.self.inside.cycle_room c.self.inside.at.whole _ c.self.view_is c.args.face c.requires
+index-requires c = face_key c.self.inside _ c.self.view_is c.args.face c.requires
 
 pub returns : goal.returns
 returns c = sym (ap (λ o. rank_or (option_map (λ r. r.rank) o)) c.index.ensures) ∙ sym (rank_seen c.self.inside.faces c.args.face) ∙ ap (λ v. rank_given v c.args.face) c.self.view_is

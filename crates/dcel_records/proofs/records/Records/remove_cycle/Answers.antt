@@ -12,18 +12,21 @@ pub unlink-requires-clause-chained : goal.unlink-requires-clause-chained
 unlink-requires-clause-chained c = c.self.invariant.faces.cycles
 
 pub unlink-requires-clause-has : goal.unlink-requires-clause-has
-unlink-requires-clause-has c = cycle_node c.self.inside.vertices c.self.inside.darts c.self.inside.cycles c.self.inside.faces c.self.inside.moved c.self.inside.order.items c.self.inside.vertex_room c.self.inside.cycle_room c.self.inside.at.whole _ c.self.view_is c.self.invariant.faces c.args.c c.requires.cycle
+unlink-requires-clause-has c = cycle_node c.self.inside _ c.self.view_is c.self.invariant.faces c.args.c c.requires.cycle
 
 pub remove-requires : goal.remove-requires
-remove-requires c = cycle_there c.self.inside.cycles c.unlink.new.rows c.self.inside.faces c.unlink.new.faces c.unlink.ensures.kept c.args.c.0 (cycle_key c.self.inside.vertices c.self.inside.darts c.self.inside.cycles c.self.inside.faces c.self.inside.moved c.self.inside.order.items c.self.inside.vertex_room c.self.inside.cycle_room c.self.inside.at.whole _ c.self.view_is c.self.invariant.faces c.args.c c.requires.cycle)
+remove-requires c = cycle_there c.self.inside.cycles c.unlink.new.rows c.self.inside.faces c.unlink.new.faces c.unlink.ensures.kept c.args.c.0 (cycle_key c.self.inside _ c.self.view_is c.self.invariant.faces c.args.c c.requires.cycle)
 
 pub invariant_of-self : goal.invariant_of-self
 invariant_of-self c = record {
   graph = c.self.invariant.graph;
-  faces = fewer_sound c.self.inside.vertices c.self.inside.darts c.self.inside.cycles c.self.inside.faces c.self.inside.moved c.self.inside.order.items c.self.inside.vertex_room c.self.inside.cycle_room c.self.inside.at.whole _ c.self.view_is c.self.invariant.faces c.args.c.0 c.unlink.new.rows c.unlink.new.faces c.unlink.ensures c.remove.new.self c.remove.ensures.updates;
+  faces = fewer_sound c.self.inside _ c.self.view_is c.self.invariant.faces c.args.c.0 c.unlink.new.rows c.unlink.new.faces c.unlink.ensures c.remove.new.self c.remove.ensures.updates;
   vertex_room = c.self.invariant.vertex_room;
   cycle_room = room_less c.self.inside.cycle_room c.self.inside.cycles c.remove.new.self c.self.invariant.cycle_room (c.remove.ensures.len ∙ c.unlink.ensures.kept.len) (c.remove.ensures.capacity ∙ c.unlink.ensures.kept.capacity);
-  on_cycles = on_others c.self.inside.darts c.unlink.new.rows c.remove.new.self c.args.c.0 c.remove.ensures.updates (none_on c.self.inside.vertices c.self.inside.darts c.self.inside.cycles c.self.inside.faces c.self.inside.moved c.self.inside.order.items c.self.inside.vertex_room c.self.inside.cycle_room c.self.inside.at.whole _ c.self.view_is c.args.c c.requires.off) (on_kept c.self.inside.darts c.self.inside.cycles c.unlink.new.rows (λ n p. parts_same (get c.self.inside.cycles n) (get c.unlink.new.rows n) (areas_stay c.self.inside.cycles c.unlink.new.rows c.self.inside.faces c.unlink.new.faces c.unlink.ensures.kept n) p) c.self.invariant.on_cycles);
+  on_cycles = on_others c.self.inside.darts c.unlink.new.rows c.remove.new.self c.args.c.0 c.remove.ensures.updates (none_on c.self.inside _ c.self.view_is c.args.c c.requires.off)
+      (on_kept c.self.inside.darts c.self.inside.cycles c.unlink.new.rows
+      (λ n p. parts_same (get c.self.inside.cycles n) (get c.unlink.new.rows n) (areas_stay c.self.inside.cycles c.unlink.new.rows c.self.inside.faces c.unlink.new.faces c.unlink.ensures.kept n) p)
+      c.self.invariant.on_cycles);
   marked = c.self.invariant.marked;
   moved = c.self.invariant.moved;
   isolated = c.self.invariant.isolated;
@@ -31,10 +34,12 @@ invariant_of-self c = record {
 }
 
 pub returns-clause-tables : goal.returns-clause-tables
-returns-clause-tables c = fewer_tables c.self.inside.vertices c.self.inside.darts c.self.inside.cycles c.self.inside.faces c.self.inside.moved c.self.inside.order.items c.self.inside.vertex_room c.self.inside.cycle_room c.self.inside.at.whole _ c.self.view_is c.self.invariant.faces c.args.c.0 c.unlink.new.rows c.unlink.new.faces c.unlink.ensures c.remove.new.self c.remove.ensures.updates
+returns-clause-tables c = fewer_tables c.self.inside _ c.self.view_is c.self.invariant.faces c.args.c.0 c.unlink.new.rows c.unlink.new.faces c.unlink.ensures c.remove.new.self c.remove.ensures.updates
 
 pub returns-clause-lists : goal.returns-clause-lists
-returns-clause-lists c = lists_after c.self.inside.vertices c.self.inside.darts c.self.inside.cycles c.self.inside.faces c.self.inside.moved c.self.inside.order.items c.self.inside.vertex_room c.self.inside.cycle_room c.self.inside.at.whole _ c.self.view_is c.self.inside.vertices c.self.inside.darts c.remove.new.self c.unlink.new.faces c.self.inside.moved c.self.inside.order.items c.self.inside.vertex_room c.self.inside.cycle_room (cycle_unlisted c.args.c) (fewer_lists c.self.inside.vertices c.self.inside.darts c.self.inside.cycles c.self.inside.faces c.self.inside.moved c.self.inside.order.items c.self.inside.vertex_room c.self.inside.cycle_room c.self.inside.at.whole _ c.self.view_is c.self.invariant.faces c.args.c.0 c.unlink.new.rows c.unlink.new.faces c.unlink.ensures c.remove.new.self c.remove.ensures.updates)
+returns-clause-lists c =
+    lists_after c.self.inside _ c.self.view_is c.self.inside.vertices c.remove.new.self c.unlink.new.faces (cycle_unlisted c.args.c)
+    (fewer_lists c.self.inside _ c.self.view_is c.self.invariant.faces c.args.c.0 c.unlink.new.rows c.unlink.new.faces c.unlink.ensures c.remove.new.self c.remove.ensures.updates)
 
 pub returns-clause-spare : goal.returns-clause-spare
 returns-clause-spare c =

@@ -3,12 +3,12 @@ use Rattle.dcel_records.proofs.Relinked.{lists_after, face_key}
 use Rattle.dcel_records.proofs.records.Records.remove_face.Goals as goal
 
 pub remove-requires : goal.remove-requires
-remove-requires c = face_key c.self.inside.vertices c.self.inside.darts c.self.inside.cycles c.self.inside.faces c.self.inside.moved c.self.inside.order.items c.self.inside.vertex_room c.self.inside.cycle_room c.self.inside.at.whole _ c.self.view_is c.args.face c.requires.face
+remove-requires c = face_key c.self.inside _ c.self.view_is c.args.face c.requires.face
 
 pub invariant_of-self : goal.invariant_of-self
 invariant_of-self c = record {
   graph = c.self.invariant.graph;
-  faces = face_less_sound c.self.inside.vertices c.self.inside.darts c.self.inside.cycles c.self.inside.faces c.self.inside.moved c.self.inside.order.items c.self.inside.vertex_room c.self.inside.cycle_room c.self.inside.at.whole _ c.self.view_is c.self.invariant.faces c.remove.new.self c.args.face c.remove.ensures.updates c.requires.cycles c.requires.bare c.requires.bounded;
+  faces = face_less_sound c.self.inside _ c.self.view_is c.self.invariant.faces c.remove.new.self c.args.face c.remove.ensures.updates c.requires.cycles c.requires.bare c.requires.bounded;
   vertex_room = c.self.invariant.vertex_room;
   cycle_room = c.self.invariant.cycle_room;
   on_cycles = c.self.invariant.on_cycles;
@@ -19,7 +19,9 @@ invariant_of-self c = record {
 }
 
 pub returns-clause-tables : goal.returns-clause-tables
-returns-clause-tables c = face_less_tables c.self.inside.vertices c.self.inside.darts c.self.inside.cycles c.self.inside.faces c.self.inside.moved c.self.inside.order.items c.self.inside.vertex_room c.self.inside.cycle_room c.self.inside.at.whole _ c.self.view_is c.self.invariant.faces c.remove.new.self c.args.face c.remove.ensures.updates c.requires.cycles c.requires.bare
+returns-clause-tables c = face_less_tables c.self.inside _ c.self.view_is c.self.invariant.faces c.remove.new.self c.args.face c.remove.ensures.updates c.requires.cycles c.requires.bare
 
 pub returns-clause-lists : goal.returns-clause-lists
-returns-clause-lists c = lists_after c.self.inside.vertices c.self.inside.darts c.self.inside.cycles c.self.inside.faces c.self.inside.moved c.self.inside.order.items c.self.inside.vertex_room c.self.inside.cycle_room c.self.inside.at.whole _ c.self.view_is c.self.inside.vertices c.self.inside.darts c.self.inside.cycles c.remove.new.self c.self.inside.moved c.self.inside.order.items c.self.inside.vertex_room c.self.inside.cycle_room (λ l. l) (face_less_lists c.self.inside.vertices c.self.inside.darts c.self.inside.cycles c.self.inside.faces c.self.inside.moved c.self.inside.order.items c.self.inside.vertex_room c.self.inside.cycle_room c.self.inside.at.whole _ c.self.view_is c.self.invariant.faces c.remove.new.self c.args.face c.remove.ensures.updates c.requires.cycles c.requires.bare)
+returns-clause-lists c =
+    lists_after c.self.inside _ c.self.view_is c.self.inside.vertices c.self.inside.cycles c.remove.new.self (λ l. l)
+    (face_less_lists c.self.inside _ c.self.view_is c.self.invariant.faces c.remove.new.self c.args.face c.remove.ensures.updates c.requires.cycles c.requires.bare)

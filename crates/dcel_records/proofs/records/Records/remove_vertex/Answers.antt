@@ -16,13 +16,15 @@ pub leave_face-requires-clause-chained : goal.leave_face-requires-clause-chained
 leave_face-requires-clause-chained c = c.self.invariant.faces.bare
 
 pub leave_face-requires-clause-has : goal.leave_face-requires-clause-has
-leave_face-requires-clause-has c = vertex_key c.self.inside.vertices c.self.inside.darts _ (graph_seen c.self.inside.vertices c.self.inside.darts c.self.inside.cycles c.self.inside.faces c.self.inside.moved c.self.inside.order.items c.self.inside.vertex_room c.self.inside.cycle_room c.self.inside.at.whole _ c.self.view_is) c.args.v c.requires.vertex
+leave_face-requires-clause-has c = vertex_key c.self.inside.vertices c.self.inside.darts _ (graph_seen c.self.inside _ c.self.view_is) c.args.v c.requires.vertex
 
 pub leave_face-requires-clause-counted : goal.leave_face-requires-clause-counted
 leave_face-requires-clause-counted c = c.self.invariant.isolated
 
 pub remove-vertex-requires : goal.remove-vertex-requires
-remove-vertex-requires c = vertex_there c.self.inside.vertices c.leave_face.new.vertices c.self.inside.faces c.leave_face.new.faces c.leave_face.ensures.left.kept c.args.v.0 (vertex_key c.self.inside.vertices c.self.inside.darts _ (graph_seen c.self.inside.vertices c.self.inside.darts c.self.inside.cycles c.self.inside.faces c.self.inside.moved c.self.inside.order.items c.self.inside.vertex_room c.self.inside.cycle_room c.self.inside.at.whole _ c.self.view_is) c.args.v c.requires.vertex)
+remove-vertex-requires c =
+    vertex_there c.self.inside.vertices c.leave_face.new.vertices c.self.inside.faces c.leave_face.new.faces c.leave_face.ensures.left.kept c.args.v.0
+    (vertex_key c.self.inside.vertices c.self.inside.darts _ (graph_seen c.self.inside _ c.self.view_is) c.args.v c.requires.vertex)
 
 pub overflow_sub-self : goal.overflow_sub-self
 overflow_sub-self c =
@@ -34,53 +36,80 @@ overflow_sub-self c =
 pub invariant_of-self : goal.invariant_of-self
 invariant_of-self c = record {
   graph = record {
-    rows = gone_kept c.leave_face.new.vertices c.self.inside.darts _ (graph_left c.self.inside.vertices c.leave_face.new.vertices c.self.inside.darts c.leave_face.ensures.left.kept.rests _ (graph_seen c.self.inside.vertices c.self.inside.darts c.self.inside.cycles c.self.inside.faces c.self.inside.moved c.self.inside.order.items c.self.inside.vertex_room c.self.inside.cycle_room c.self.inside.at.whole _ c.self.view_is)) (graph_sound c.self.inside.vertices c.leave_face.new.vertices c.self.inside.darts c.leave_face.ensures.left.kept.rests _ c.self.invariant.graph).rows _ c.args.v c.requires.bare c.remove-vertex.ensures.updates;
-    mapped = c.take.ensures c.args.v _ _ (graph_sound c.self.inside.vertices c.leave_face.new.vertices c.self.inside.darts c.leave_face.ensures.left.kept.rests _ c.self.invariant.graph).mapped (one_apart c.remove-vertex.new.self c.leave_face.new.vertices c.args.v.0 c.remove-vertex.result c.remove-vertex.ensures.updates.changed c.remove-vertex.ensures.value (λ n ne. sym (c.remove-vertex.ensures.updates.others n ne)));
+    rows = gone_kept c.leave_face.new.vertices c.self.inside.darts _
+        (graph_left c.self.inside.vertices c.leave_face.new.vertices c.self.inside.darts c.leave_face.ensures.left.kept.rests _ (graph_seen c.self.inside _ c.self.view_is))
+        (graph_sound c.self.inside.vertices c.leave_face.new.vertices c.self.inside.darts c.leave_face.ensures.left.kept.rests _ c.self.invariant.graph).rows _ c.args.v c.requires.bare
+        c.remove-vertex.ensures.updates;
+    mapped = c.take.ensures c.args.v _ _ (graph_sound c.self.inside.vertices c.leave_face.new.vertices c.self.inside.darts c.leave_face.ensures.left.kept.rests _ c.self.invariant.graph).mapped
+        (one_apart c.remove-vertex.new.self c.leave_face.new.vertices c.args.v.0 c.remove-vertex.result c.remove-vertex.ensures.updates.changed c.remove-vertex.ensures.value (λ n ne. sym (c.remove-vertex.ensures.updates.others n ne)));
     counted =
         let k = (graph_sound c.self.inside.vertices c.leave_face.new.vertices c.self.inside.darts c.leave_face.ensures.left.kept.rests _ c.self.invariant.graph).counted in
         let g = pins_gone c.leave_face.new.vertices c.remove-vertex.new.self c.args.v.0 c.remove-vertex.result c.remove-vertex.ensures.value c.remove-vertex.ensures.updates in
         let o = ap one_if c.if-vertex.true in
         omega arith;
   };
-  faces = gone_sound c.self.inside.vertices c.self.inside.darts c.self.inside.cycles c.self.inside.faces c.self.inside.moved c.self.inside.order.items c.self.inside.vertex_room c.self.inside.cycle_room c.self.inside.at.whole _ c.self.view_is c.self.invariant.faces c.args.v c.leave_face.new.vertices c.leave_face.new.faces c.leave_face.ensures.left c.remove-vertex.new.self c.remove-vertex.ensures.updates;
-  vertex_room = room_less c.self.inside.vertex_room c.self.inside.vertices c.remove-vertex.new.self c.self.invariant.vertex_room (c.remove-vertex.ensures.len ∙ c.leave_face.ensures.left.kept.len) (c.remove-vertex.ensures.capacity ∙ c.leave_face.ensures.left.kept.capacity);
+  faces = gone_sound c.self.inside _ c.self.view_is c.self.invariant.faces c.args.v c.leave_face.new.vertices c.leave_face.new.faces c.leave_face.ensures.left c.remove-vertex.new.self c.remove-vertex.ensures.updates;
+  vertex_room = room_less c.self.inside.vertex_room c.self.inside.vertices c.remove-vertex.new.self c.self.invariant.vertex_room (c.remove-vertex.ensures.len ∙ c.leave_face.ensures.left.kept.len)
+      (c.remove-vertex.ensures.capacity ∙ c.leave_face.ensures.left.kept.capacity);
   cycle_room = c.self.invariant.cycle_room;
   on_cycles = c.self.invariant.on_cycles;
-  marked = marked_gone c.leave_face.new.vertices c.remove-vertex.new.self c.self.inside.darts _ (graph_left c.self.inside.vertices c.leave_face.new.vertices c.self.inside.darts c.leave_face.ensures.left.kept.rests _ (graph_seen c.self.inside.vertices c.self.inside.darts c.self.inside.cycles c.self.inside.faces c.self.inside.moved c.self.inside.order.items c.self.inside.vertex_room c.self.inside.cycle_room c.self.inside.at.whole _ c.self.view_is)) c.args.v c.requires.bare c.remove-vertex.ensures.updates (marked_relinked c.self.inside.vertices c.leave_face.new.vertices c.self.inside.darts c.leave_face.ensures.left.kept.rests c.self.invariant.marked);
+  marked = marked_gone c.leave_face.new.vertices c.remove-vertex.new.self c.self.inside.darts _
+      (graph_left c.self.inside.vertices c.leave_face.new.vertices c.self.inside.darts c.leave_face.ensures.left.kept.rests _ (graph_seen c.self.inside _ c.self.view_is)) c.args.v
+      c.requires.bare c.remove-vertex.ensures.updates
+      (marked_relinked c.self.inside.vertices c.leave_face.new.vertices c.self.inside.darts c.leave_face.ensures.left.kept.rests c.self.invariant.marked);
   moved = c.self.invariant.moved;
-  isolated = c.leave_face.ensures.counted ∙ isolated_gone c.self.inside.vertices c.leave_face.new.vertices c.self.inside.faces c.leave_face.new.faces c.args.v.0 c.leave_face.ensures.left c.remove-vertex.new.self c.remove-vertex.ensures.updates;
+  isolated = c.leave_face.ensures.counted
+      ∙ isolated_gone c.self.inside.vertices c.leave_face.new.vertices c.self.inside.faces c.leave_face.new.faces c.args.v.0 c.leave_face.ensures.left c.remove-vertex.new.self
+      c.remove-vertex.ensures.updates;
   keys = c.self.invariant.keys;
 }
 
 pub invariant_of-self-else-vertex : goal.invariant_of-self-else-vertex
 invariant_of-self-else-vertex c = record {
   graph = record {
-    rows = gone_kept c.leave_face.new.vertices c.self.inside.darts _ (graph_left c.self.inside.vertices c.leave_face.new.vertices c.self.inside.darts c.leave_face.ensures.left.kept.rests _ (graph_seen c.self.inside.vertices c.self.inside.darts c.self.inside.cycles c.self.inside.faces c.self.inside.moved c.self.inside.order.items c.self.inside.vertex_room c.self.inside.cycle_room c.self.inside.at.whole _ c.self.view_is)) (graph_sound c.self.inside.vertices c.leave_face.new.vertices c.self.inside.darts c.leave_face.ensures.left.kept.rests _ c.self.invariant.graph).rows _ c.args.v c.requires.bare c.remove-vertex.ensures.updates;
-    mapped = c.take.ensures c.args.v _ _ (graph_sound c.self.inside.vertices c.leave_face.new.vertices c.self.inside.darts c.leave_face.ensures.left.kept.rests _ c.self.invariant.graph).mapped (one_apart c.remove-vertex.new.self c.leave_face.new.vertices c.args.v.0 c.remove-vertex.result c.remove-vertex.ensures.updates.changed c.remove-vertex.ensures.value (λ n ne. sym (c.remove-vertex.ensures.updates.others n ne)));
+    rows = gone_kept c.leave_face.new.vertices c.self.inside.darts _
+        (graph_left c.self.inside.vertices c.leave_face.new.vertices c.self.inside.darts c.leave_face.ensures.left.kept.rests _ (graph_seen c.self.inside _ c.self.view_is))
+        (graph_sound c.self.inside.vertices c.leave_face.new.vertices c.self.inside.darts c.leave_face.ensures.left.kept.rests _ c.self.invariant.graph).rows _ c.args.v c.requires.bare
+        c.remove-vertex.ensures.updates;
+    mapped = c.take.ensures c.args.v _ _ (graph_sound c.self.inside.vertices c.leave_face.new.vertices c.self.inside.darts c.leave_face.ensures.left.kept.rests _ c.self.invariant.graph).mapped
+        (one_apart c.remove-vertex.new.self c.leave_face.new.vertices c.args.v.0 c.remove-vertex.result c.remove-vertex.ensures.updates.changed c.remove-vertex.ensures.value (λ n ne. sym (c.remove-vertex.ensures.updates.others n ne)));
     counted =
         let k = (graph_sound c.self.inside.vertices c.leave_face.new.vertices c.self.inside.darts c.leave_face.ensures.left.kept.rests _ c.self.invariant.graph).counted in
         let g = pins_gone c.leave_face.new.vertices c.remove-vertex.new.self c.args.v.0 c.remove-vertex.result c.remove-vertex.ensures.value c.remove-vertex.ensures.updates in
         let o = ap one_if c.if-vertex.false in
         omega arith;
   };
-  faces = gone_sound c.self.inside.vertices c.self.inside.darts c.self.inside.cycles c.self.inside.faces c.self.inside.moved c.self.inside.order.items c.self.inside.vertex_room c.self.inside.cycle_room c.self.inside.at.whole _ c.self.view_is c.self.invariant.faces c.args.v c.leave_face.new.vertices c.leave_face.new.faces c.leave_face.ensures.left c.remove-vertex.new.self c.remove-vertex.ensures.updates;
-  vertex_room = room_less c.self.inside.vertex_room c.self.inside.vertices c.remove-vertex.new.self c.self.invariant.vertex_room (c.remove-vertex.ensures.len ∙ c.leave_face.ensures.left.kept.len) (c.remove-vertex.ensures.capacity ∙ c.leave_face.ensures.left.kept.capacity);
+  faces = gone_sound c.self.inside _ c.self.view_is c.self.invariant.faces c.args.v c.leave_face.new.vertices c.leave_face.new.faces c.leave_face.ensures.left c.remove-vertex.new.self c.remove-vertex.ensures.updates;
+  vertex_room = room_less c.self.inside.vertex_room c.self.inside.vertices c.remove-vertex.new.self c.self.invariant.vertex_room (c.remove-vertex.ensures.len ∙ c.leave_face.ensures.left.kept.len)
+      (c.remove-vertex.ensures.capacity ∙ c.leave_face.ensures.left.kept.capacity);
   cycle_room = c.self.invariant.cycle_room;
   on_cycles = c.self.invariant.on_cycles;
-  marked = marked_gone c.leave_face.new.vertices c.remove-vertex.new.self c.self.inside.darts _ (graph_left c.self.inside.vertices c.leave_face.new.vertices c.self.inside.darts c.leave_face.ensures.left.kept.rests _ (graph_seen c.self.inside.vertices c.self.inside.darts c.self.inside.cycles c.self.inside.faces c.self.inside.moved c.self.inside.order.items c.self.inside.vertex_room c.self.inside.cycle_room c.self.inside.at.whole _ c.self.view_is)) c.args.v c.requires.bare c.remove-vertex.ensures.updates (marked_relinked c.self.inside.vertices c.leave_face.new.vertices c.self.inside.darts c.leave_face.ensures.left.kept.rests c.self.invariant.marked);
+  marked = marked_gone c.leave_face.new.vertices c.remove-vertex.new.self c.self.inside.darts _
+      (graph_left c.self.inside.vertices c.leave_face.new.vertices c.self.inside.darts c.leave_face.ensures.left.kept.rests _ (graph_seen c.self.inside _ c.self.view_is)) c.args.v
+      c.requires.bare c.remove-vertex.ensures.updates
+      (marked_relinked c.self.inside.vertices c.leave_face.new.vertices c.self.inside.darts c.leave_face.ensures.left.kept.rests c.self.invariant.marked);
   moved = c.self.invariant.moved;
-  isolated = c.leave_face.ensures.counted ∙ isolated_gone c.self.inside.vertices c.leave_face.new.vertices c.self.inside.faces c.leave_face.new.faces c.args.v.0 c.leave_face.ensures.left c.remove-vertex.new.self c.remove-vertex.ensures.updates;
+  isolated = c.leave_face.ensures.counted
+      ∙ isolated_gone c.self.inside.vertices c.leave_face.new.vertices c.self.inside.faces c.leave_face.new.faces c.args.v.0 c.leave_face.ensures.left c.remove-vertex.new.self
+      c.remove-vertex.ensures.updates;
   keys = c.self.invariant.keys;
 }
 
 pub returns-then-vertex-clause-graph : goal.returns-then-vertex-clause-graph
-returns-then-vertex-clause-graph c = gone_graph c.leave_face.new.vertices c.self.inside.darts _ (graph_left c.self.inside.vertices c.leave_face.new.vertices c.self.inside.darts c.leave_face.ensures.left.kept.rests _ (graph_seen c.self.inside.vertices c.self.inside.darts c.self.inside.cycles c.self.inside.faces c.self.inside.moved c.self.inside.order.items c.self.inside.vertex_room c.self.inside.cycle_room c.self.inside.at.whole _ c.self.view_is)) _ c.args.v c.remove-vertex.ensures.updates
+returns-then-vertex-clause-graph c =
+    gone_graph c.leave_face.new.vertices c.self.inside.darts _
+    (graph_left c.self.inside.vertices c.leave_face.new.vertices c.self.inside.darts c.leave_face.ensures.left.kept.rests _ (graph_seen c.self.inside _ c.self.view_is)) _ c.args.v
+    c.remove-vertex.ensures.updates
 
 pub returns-then-vertex-clause-tables : goal.returns-then-vertex-clause-tables
-returns-then-vertex-clause-tables c = gone_tables c.self.inside.vertices c.self.inside.darts c.self.inside.cycles c.self.inside.faces c.self.inside.moved c.self.inside.order.items c.self.inside.vertex_room c.self.inside.cycle_room c.self.inside.at.whole _ c.self.view_is c.self.invariant.faces c.args.v c.leave_face.new.vertices c.leave_face.new.faces c.leave_face.ensures.left c.remove-vertex.new.self c.remove-vertex.ensures.updates
+returns-then-vertex-clause-tables c =
+    gone_tables c.self.inside _ c.self.view_is c.self.invariant.faces c.args.v c.leave_face.new.vertices c.leave_face.new.faces c.leave_face.ensures.left c.remove-vertex.new.self
+    c.remove-vertex.ensures.updates
 
 pub returns-then-vertex-clause-lists : goal.returns-then-vertex-clause-lists
-returns-then-vertex-clause-lists c = lists_after c.self.inside.vertices c.self.inside.darts c.self.inside.cycles c.self.inside.faces c.self.inside.moved c.self.inside.order.items c.self.inside.vertex_room c.self.inside.cycle_room c.self.inside.at.whole _ c.self.view_is c.remove-vertex.new.self c.self.inside.darts c.self.inside.cycles c.leave_face.new.faces c.self.inside.moved c.self.inside.order.items c.self.inside.vertex_room c.self.inside.cycle_room (vertex_unlisted c.args.v) (gone_lists c.self.inside.vertices c.self.inside.darts c.self.inside.cycles c.self.inside.faces c.self.inside.moved c.self.inside.order.items c.self.inside.vertex_room c.self.inside.cycle_room c.self.inside.at.whole _ c.self.view_is c.self.invariant.faces c.args.v c.leave_face.new.vertices c.leave_face.new.faces c.leave_face.ensures.left c.remove-vertex.new.self c.remove-vertex.ensures.updates)
+returns-then-vertex-clause-lists c =
+    lists_after c.self.inside _ c.self.view_is c.remove-vertex.new.self c.self.inside.cycles c.leave_face.new.faces (vertex_unlisted c.args.v)
+    (gone_lists c.self.inside _ c.self.view_is c.self.invariant.faces c.args.v c.leave_face.new.vertices c.leave_face.new.faces c.leave_face.ensures.left c.remove-vertex.new.self c.remove-vertex.ensures.updates)
 
 pub returns-then-vertex-clause-spare_faces : goal.returns-then-vertex-clause-spare_faces
 returns-then-vertex-clause-spare_faces c =
@@ -93,13 +122,20 @@ returns-then-vertex-clause-spare_faces c =
     record { of_cycles = omega arith; of_faces = omega arith; capacity_of_cycles = omega arith; capacity_of_faces = omega arith }
 
 pub returns-else-vertex-clause-graph : goal.returns-else-vertex-clause-graph
-returns-else-vertex-clause-graph c = gone_graph c.leave_face.new.vertices c.self.inside.darts _ (graph_left c.self.inside.vertices c.leave_face.new.vertices c.self.inside.darts c.leave_face.ensures.left.kept.rests _ (graph_seen c.self.inside.vertices c.self.inside.darts c.self.inside.cycles c.self.inside.faces c.self.inside.moved c.self.inside.order.items c.self.inside.vertex_room c.self.inside.cycle_room c.self.inside.at.whole _ c.self.view_is)) _ c.args.v c.remove-vertex.ensures.updates
+returns-else-vertex-clause-graph c =
+    gone_graph c.leave_face.new.vertices c.self.inside.darts _
+    (graph_left c.self.inside.vertices c.leave_face.new.vertices c.self.inside.darts c.leave_face.ensures.left.kept.rests _ (graph_seen c.self.inside _ c.self.view_is)) _ c.args.v
+    c.remove-vertex.ensures.updates
 
 pub returns-else-vertex-clause-tables : goal.returns-else-vertex-clause-tables
-returns-else-vertex-clause-tables c = gone_tables c.self.inside.vertices c.self.inside.darts c.self.inside.cycles c.self.inside.faces c.self.inside.moved c.self.inside.order.items c.self.inside.vertex_room c.self.inside.cycle_room c.self.inside.at.whole _ c.self.view_is c.self.invariant.faces c.args.v c.leave_face.new.vertices c.leave_face.new.faces c.leave_face.ensures.left c.remove-vertex.new.self c.remove-vertex.ensures.updates
+returns-else-vertex-clause-tables c =
+    gone_tables c.self.inside _ c.self.view_is c.self.invariant.faces c.args.v c.leave_face.new.vertices c.leave_face.new.faces c.leave_face.ensures.left c.remove-vertex.new.self
+    c.remove-vertex.ensures.updates
 
 pub returns-else-vertex-clause-lists : goal.returns-else-vertex-clause-lists
-returns-else-vertex-clause-lists c = lists_after c.self.inside.vertices c.self.inside.darts c.self.inside.cycles c.self.inside.faces c.self.inside.moved c.self.inside.order.items c.self.inside.vertex_room c.self.inside.cycle_room c.self.inside.at.whole _ c.self.view_is c.remove-vertex.new.self c.self.inside.darts c.self.inside.cycles c.leave_face.new.faces c.self.inside.moved c.self.inside.order.items c.self.inside.vertex_room c.self.inside.cycle_room (vertex_unlisted c.args.v) (gone_lists c.self.inside.vertices c.self.inside.darts c.self.inside.cycles c.self.inside.faces c.self.inside.moved c.self.inside.order.items c.self.inside.vertex_room c.self.inside.cycle_room c.self.inside.at.whole _ c.self.view_is c.self.invariant.faces c.args.v c.leave_face.new.vertices c.leave_face.new.faces c.leave_face.ensures.left c.remove-vertex.new.self c.remove-vertex.ensures.updates)
+returns-else-vertex-clause-lists c =
+    lists_after c.self.inside _ c.self.view_is c.remove-vertex.new.self c.self.inside.cycles c.leave_face.new.faces (vertex_unlisted c.args.v)
+    (gone_lists c.self.inside _ c.self.view_is c.self.invariant.faces c.args.v c.leave_face.new.vertices c.leave_face.new.faces c.leave_face.ensures.left c.remove-vertex.new.self c.remove-vertex.ensures.updates)
 
 pub returns-else-vertex-clause-spare_faces : goal.returns-else-vertex-clause-spare_faces
 returns-else-vertex-clause-spare_faces c =

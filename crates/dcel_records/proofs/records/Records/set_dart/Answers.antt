@@ -9,12 +9,12 @@ use Rattle.dcel_records.proofs.OnCycles.{on_written}
 use Rattle.dcel_records.proofs.records.Records.set_dart.Goals as goal
 
 pub index_mut-requires : goal.index_mut-requires
-index_mut-requires c = cycle_key c.self.inside.vertices c.self.inside.darts c.self.inside.cycles c.self.inside.faces c.self.inside.moved c.self.inside.order.items c.self.inside.vertex_room c.self.inside.cycle_room c.self.inside.at.whole _ c.self.view_is c.self.invariant.faces c.args.c c.requires
+index_mut-requires c = cycle_key c.self.inside _ c.self.view_is c.self.invariant.faces c.args.c c.requires
 
 pub invariant_of-self : goal.invariant_of-self
 invariant_of-self c = record {
   graph = c.self.invariant.graph;
-  faces = dart_sound c.self.inside.vertices c.self.inside.darts c.self.inside.cycles c.self.inside.faces c.self.inside.moved c.self.inside.order.items c.self.inside.vertex_room c.self.inside.cycle_room c.self.inside.at.whole _ c.self.view_is c.self.invariant.faces c.args.c.0 c.index_mut.result.now _ c.index_mut.ensures.value refl refl;
+  faces = dart_sound c.self.inside _ c.self.view_is c.self.invariant.faces c.args.c.0 c.index_mut.result.now _ c.index_mut.ensures.value refl refl;
   vertex_room = c.self.invariant.vertex_room;
   cycle_room = room_same c.self.inside.cycle_room c.self.inside.cycles _ c.self.invariant.cycle_room (len_written c.self.inside.cycles _ _ _ c.index_mut.ensures.value) refl;
   on_cycles = on_written c.self.inside.darts c.self.inside.cycles c.args.c.0 c.index_mut.result.now _ c.index_mut.ensures.value refl c.self.invariant.on_cycles;
@@ -25,10 +25,12 @@ invariant_of-self c = record {
 }
 
 pub returns-clause-tables : goal.returns-clause-tables
-returns-clause-tables c = dart_tables c.self.inside.vertices c.self.inside.darts c.self.inside.cycles c.self.inside.faces c.self.inside.moved c.self.inside.order.items c.self.inside.vertex_room c.self.inside.cycle_room c.self.inside.at.whole _ c.self.view_is c.self.invariant.faces c.args.c.0 c.index_mut.result.now _ c.index_mut.ensures.value refl refl
+returns-clause-tables c = dart_tables c.self.inside _ c.self.view_is c.self.invariant.faces c.args.c.0 c.index_mut.result.now _ c.index_mut.ensures.value refl refl
 
 pub returns-clause-lists : goal.returns-clause-lists
-returns-clause-lists c = lists_after c.self.inside.vertices c.self.inside.darts c.self.inside.cycles c.self.inside.faces c.self.inside.moved c.self.inside.order.items c.self.inside.vertex_room c.self.inside.cycle_room c.self.inside.at.whole _ c.self.view_is c.self.inside.vertices c.self.inside.darts _ c.self.inside.faces c.self.inside.moved c.self.inside.order.items c.self.inside.vertex_room c.self.inside.cycle_room (dart_listed c.args.c c.args.dart) (dart_lists c.self.inside.vertices c.self.inside.darts c.self.inside.cycles c.self.inside.faces c.self.inside.moved c.self.inside.order.items c.self.inside.vertex_room c.self.inside.cycle_room c.self.inside.at.whole _ c.self.view_is c.self.invariant.faces c.args.c.0 c.index_mut.result.now _ c.index_mut.ensures.value refl refl)
+returns-clause-lists c =
+    lists_after c.self.inside _ c.self.view_is c.self.inside.vertices _ c.self.inside.faces (dart_listed c.args.c c.args.dart)
+    (dart_lists c.self.inside _ c.self.view_is c.self.invariant.faces c.args.c.0 c.index_mut.result.now _ c.index_mut.ensures.value refl refl)
 
 pub returns-clause-spare : goal.returns-clause-spare
 returns-clause-spare c =

@@ -3,7 +3,7 @@ use Rattle.dcel_records.proofs.Marked.{target_marked}
 use Rattle.dcel_records.proofs.records.Records.target_parts.Goals as goal
 
 pub index-requires : goal.index-requires
-index-requires c = dart_key c.self.inside.vertices c.self.inside.darts _ (graph_seen c.self.inside.vertices c.self.inside.darts c.self.inside.cycles c.self.inside.faces c.self.inside.moved c.self.inside.order.items c.self.inside.vertex_room c.self.inside.cycle_room c.self.inside.at.whole _ c.self.view_is) c.args.d c.requires
+index-requires c = dart_key c.self.inside.vertices c.self.inside.darts _ (graph_seen c.self.inside _ c.self.view_is) c.args.d c.requires
 
 pub returns : goal.returns
-returns c = target_marked c.self.inside.vertices c.self.inside.darts _ (graph_seen c.self.inside.vertices c.self.inside.darts c.self.inside.cycles c.self.inside.faces c.self.inside.moved c.self.inside.order.items c.self.inside.vertex_room c.self.inside.cycle_room c.self.inside.at.whole _ c.self.view_is) c.self.invariant.marked c.self.invariant.graph.rows c.args.d _ c.requires c.index.ensures
+returns c = target_marked c.self.inside.vertices c.self.inside.darts _ (graph_seen c.self.inside _ c.self.view_is) c.self.invariant.marked c.self.invariant.graph.rows c.args.d _ c.requires c.index.ensures

@@ -12,12 +12,14 @@ loop-key-init c = record {
   can_next = tt;
   is_finite = tt;
   left =
-      all_left c.self.inside.vertices c.self.inside.darts _ (graph_seen c.self.inside.vertices c.self.inside.darts c.self.inside.cycles c.self.inside.faces c.self.inside.moved c.self.inside.order.items c.self.inside.vertex_room c.self.inside.cycle_room c.self.inside.at.whole _ c.self.view_is)
+      all_left c.self.inside.vertices c.self.inside.darts _ (graph_seen c.self.inside _ c.self.view_is)
       c.args.point.now _ (c.into_iter-key-iterator.ensures.into_iter_gives ∙ c.iter-key-items.ensures);
 }
 
 pub returns-then-self : goal.returns-then-self
-returns-then-self c = subst (IsVertexAt c.args.self.now.graph c.args.point.now) (sym c.vertex.ensures) (mapped_is _ c.args.self.now.graph c.args.point.now c.if-self.true (subst (λ (rs : List (ℕ × VertexRecord)). IsMapOf c.self.inside.at rs) (ap (λ x. x.graph.vertices) c.self.view_is) c.self.invariant.graph.mapped))
+returns-then-self c =
+    subst (IsVertexAt c.args.self.now.graph c.args.point.now) (sym c.vertex.ensures)
+    (mapped_is _ c.args.self.now.graph c.args.point.now c.if-self.true (subst (λ (rs : List (ℕ × VertexRecord)). IsMapOf c.self.inside.at rs) (ap (λ x. x.graph.vertices) c.self.view_is) c.self.invariant.graph.mapped))
 
 pub returns-then-eq : goal.returns-then-eq
 returns-then-eq c = found_at c.args.self.now.graph c.args.point.now c.loop-key.key-iterator c.next.new.self c.in-Some.key c.in-Some.vertex.now c.in-Some.ensures.steps c.loop-key.invariant.left c.eq.result c.eq.ensures c.if-eq.true

@@ -13,7 +13,7 @@ pub returns-in-Isolated-clause-ready : goal.returns-in-Isolated-clause-ready
 returns-in-Isolated-clause-ready g c = λ k i.
     let v = g.T.NameCalls.graph c.args.sight.now in
     let now = c.args.self.now in
-    visit_on v (g.T.NameCalls.graph now.sight.now) (g.T.NameCalls.faces k.sight.now) (g.T.NameCalls.faces now.sight.now) k.face now.face k.search now.search c.look_at_vertex.new.search (c.look_at_vertex.ensures.ready k.search) i
+    visit_on v (g.T.NameCalls.graph now.sight.now) (g.T.NameCalls.faces k.sight.now) (g.T.NameCalls.faces now.sight.now) k.face now.face now.entry k.search now.search c.look_at_vertex.new.search (c.look_at_vertex.ensures.ready k.search) i
 
 pub returns-in-Isolated-clause-seen : goal.returns-in-Isolated-clause-seen
 returns-in-Isolated-clause-seen g c =
