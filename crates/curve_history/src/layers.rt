@@ -126,6 +126,7 @@ impl History {
         ensures pieces { self.new.pieces ≡ self.old.pieces }
         ensures strands { SameStrands self.old self.new }
         ensures curves { SameCurves self.old self.new }
+        ensures spare_names { self.old.spare_names ≤ self.new.spare_names + 1 }
         ensures spare_pieces { self.old.spare_pieces ≤ self.new.spare_pieces }
         ensures spare_pairs { self.old.spare_pairs ≤ self.new.spare_pairs }
     {
@@ -170,6 +171,8 @@ impl History {
         ensures next { self.new.next ≡ self.old.next }
         ensures strands { SameStrands self.old self.new }
         ensures curves { SameCurves self.old self.new }
+        ensures spare_names { self.old.spare_names ≤ self.new.spare_names }
+        ensures spare_pairs { self.old.spare_pairs ≤ self.new.spare_pairs }
     {
         // All pieces and the room for more are within what fits.
         self.pieces.laws();

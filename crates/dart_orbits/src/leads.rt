@@ -29,11 +29,7 @@ fn mark_cycle(leads: &mut Vec<usize>, nexts: &[usize], first: usize)
 ///
 /// The places of the darts that follow are those of `nexts_around` for these points and edges, which say what graph is meant and
 /// aren't read. Each cycle is walked once, from its least dart.
-///
-/// # Errors
-///
-/// There was no memory.
-pub fn least_darts_by_walks(
+pub(crate) fn least_darts_by_walks(
     alloc: Global,
     points: &[Point],
     edges: &[Span],

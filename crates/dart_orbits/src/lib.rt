@@ -16,9 +16,7 @@ mod twins;
 mod ways;
 
 pub use cycles::{cycles_at, least_darts_among};
-pub use leads::least_darts_by_walks;
-pub use nexts::{first_around, nexts_around};
+pub use nexts::first_around;
 pub use orbits::{Orbits, orbits_of};
-pub use rows::{darts_by_rows, darts_of, rows_ahead};
+pub use rows::darts_of;
 pub use twins::twins_of;
-pub use ways::darts_around;

@@ -45,7 +45,7 @@ fn first_of(darts: &[ListedDart], around: &[usize], source: usize) -> usize
 }
 
 /// The first dart clockwise, from straight down on, out of a dart's source (CGAL manual, circulator around a vertex). The darts
-/// round their sources are those of `darts_around`; one search.
+/// round their sources are those of `Orbits::around`; one search.
 pub fn first_around(
     points: &[Point],
     edges: &[Span],
@@ -130,11 +130,7 @@ fn afters_of(
 /// The darts and their twins are those of `darts_of` and `twins_of` for these points and edges, and round their sources those of
 /// `darts_around`. In that list the follower is the neighbour, or, for the last one of a source, the first one of it, which is
 /// known from where its darts began.
-///
-/// # Errors
-///
-/// There was no memory.
-pub fn nexts_around(
+pub(crate) fn nexts_around(
     alloc: Global,
     points: &[Point],
     edges: &[Span],

@@ -23,11 +23,7 @@ fn place_of(points: &[Point], point: &Point) -> usize
 /// The rows of the darts that go forward along the edges, in the order of these, by two searches for each.
 ///
 /// The points are in their order, and each edge's ends are among them.
-///
-/// # Errors
-///
-/// `NoMemory` where there is no memory for the list.
-pub fn rows_ahead(
+pub(crate) fn rows_ahead(
     alloc: Global,
     points: &[Point],
     edges: &[Span],
@@ -70,11 +66,7 @@ fn with_twins(alloc: Global, ahead: &[ListedDart]) -> Result<Vec<ListedDart>, Al
 
 /// The darts of a plane graph, two for each edge, by source, then by target (CGAL manual, halfedge), from the rows of those that go
 /// forward, which are in the order of the edges. Of the points and edges only the contract speaks.
-///
-/// # Errors
-///
-/// `NoMemory` where there is no memory for the list.
-pub fn darts_by_rows(
+pub(crate) fn darts_by_rows(
     alloc: Global,
     points: &[Point],
     edges: &[Span],

@@ -127,11 +127,7 @@ fn darts_along(alloc: Global, ways: &[Way]) -> Result<Vec<usize>, AllocError>
 ///
 /// The darts are those of `darts_of` for these points and edges. The darts round each vertex are sorted by themselves, by whole
 /// numbers and slopes, so that the sort of all finds them in order: n log n steps for n darts.
-///
-/// # Errors
-///
-/// There was no memory.
-pub fn darts_around(
+pub(crate) fn darts_around(
     alloc: Global,
     points: &[Point],
     edges: &[Span],

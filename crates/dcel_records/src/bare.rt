@@ -46,6 +46,7 @@ impl Records {
         ensures spare { IsSpareFaces self.old.faces self.new.faces 0 0 }
         ensures moved { self.new.faces.moved ≡ self.old.faces.moved }
         ensures graph { graph_part self.new ≡ graph_part self.old }
+        ensures mapped { self.new.mapped ≡ self.old.mapped }
     {
         link_first(&mut self.vertices, &mut self.faces, v.0, face);
         // No more vertices are isolated than there is room for, which a `usize` counts.
@@ -61,6 +62,7 @@ impl Records {
         ensures spare { IsSpareFaces self.old.faces self.new.faces 0 0 }
         ensures moved { self.new.faces.moved ≡ self.old.faces.moved }
         ensures graph { graph_part self.new ≡ graph_part self.old }
+        ensures mapped { self.new.mapped ≡ self.old.mapped }
     {
         leave_face(&mut self.vertices, &mut self.faces, &mut self.isolated, v);
     }
@@ -74,6 +76,7 @@ impl Records {
         ensures spare { IsSpareFaces self.old.faces self.new.faces 0 0 }
         ensures moved { self.new.faces.moved ≡ self.old.faces.moved }
         ensures graph { graph_part self.new ≡ graph_part self.old }
+        ensures mapped { self.new.mapped ≡ self.old.mapped }
     {
         unlink(&mut self.vertices, &mut self.faces, v.0);
         link_first(&mut self.vertices, &mut self.faces, v.0, face);

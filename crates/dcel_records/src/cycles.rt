@@ -31,6 +31,7 @@ impl Records {
         ensures spare { IsSpareFaces self.new.faces self.old.faces 0 1 }
         ensures moved { self.new.faces.moved ≡ self.old.faces.moved }
         ensures graph { graph_part self.new ≡ graph_part self.old }
+        ensures mapped { self.new.mapped ≡ self.old.mapped }
     {
         FaceId(self.faces.insert_reserved(no_rows_of_face()))
     }
@@ -46,6 +47,7 @@ impl Records {
         ensures spare { IsSpareFaces self.old.faces self.new.faces 0 1 }
         ensures moved { self.new.faces.moved ≡ self.old.faces.moved }
         ensures graph { graph_part self.new ≡ graph_part self.old }
+        ensures mapped { self.new.mapped ≡ self.old.mapped }
     {
         self.faces.remove(face.0);
     }
@@ -60,6 +62,7 @@ impl Records {
         ensures spare { IsSpareFaces self.new.faces self.old.faces 1 0 }
         ensures moved { self.new.faces.moved ≡ self.old.faces.moved }
         ensures graph { graph_part self.new ≡ graph_part self.old }
+        ensures mapped { self.new.mapped ≡ self.old.mapped }
     {
         let place = Place {
             face,
@@ -85,6 +88,7 @@ impl Records {
         ensures spare { IsSpareFaces self.old.faces self.new.faces 1 0 }
         ensures moved { self.new.faces.moved ≡ self.old.faces.moved }
         ensures graph { graph_part self.new ≡ graph_part self.old }
+        ensures mapped { self.new.mapped ≡ self.old.mapped }
     {
         unlink(&mut self.cycles, &mut self.faces, c.0);
         self.cycles.remove(c.0);
@@ -99,6 +103,7 @@ impl Records {
         ensures spare { IsSpareFaces self.old.faces self.new.faces 0 0 }
         ensures moved { self.new.faces.moved ≡ self.old.faces.moved }
         ensures graph { graph_part self.new ≡ graph_part self.old }
+        ensures mapped { self.new.mapped ≡ self.old.mapped }
     {
         unlink(&mut self.cycles, &mut self.faces, c.0);
         link_first(&mut self.cycles, &mut self.faces, c.0, face);
@@ -112,6 +117,7 @@ impl Records {
         ensures spare { IsSpareFaces self.old.faces self.new.faces 0 0 }
         ensures moved { self.new.faces.moved ≡ self.old.faces.moved }
         ensures graph { graph_part self.new ≡ graph_part self.old }
+        ensures mapped { self.new.mapped ≡ self.old.mapped }
     {
         self.cycles[c.0].dart = dart;
     }

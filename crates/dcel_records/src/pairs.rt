@@ -85,6 +85,7 @@ impl Records {
         ensures graph { self.new.graph ≡ with_edge self.old.graph result.0 result.1 u v line }
         ensures spare { IsSpare self.new self.old 0 2 }
         ensures faces { self.new.faces ≡ record self.old.faces { tables = on_cycle result.1 cycle (on_cycle result.0 cycle self.old.faces.tables) } }
+        ensures mapped { self.new.mapped ≡ self.old.mapped }
     {
         let source_parts = self.vertices[u.0].point.whole_parts();
         let target_parts = self.vertices[v.0].point.whole_parts();
@@ -125,6 +126,7 @@ impl Records {
         ensures graph { self.new.graph ≡ without_pair self.old.graph d (twin_in self.old.graph d) }
         ensures spare { IsSpare self.old self.new 0 2 }
         ensures faces { self.new.faces ≡ record self.old.faces { tables = off_cycles (twin_in self.old.graph d) (off_cycles d self.old.faces.tables) } }
+        ensures mapped { self.new.mapped ≡ self.old.mapped }
     {
         let dart = self.darts.remove(d.0);
         let twin = self.darts.remove(dart.twin.0);
@@ -138,6 +140,7 @@ impl Records {
         ensures graph { self.new.graph ≡ with_next self.old.graph d n }
         ensures spare { IsSpare self.old self.new 0 0 }
         ensures faces { self.new.faces ≡ self.old.faces }
+        ensures mapped { self.new.mapped ≡ self.old.mapped }
     {
         self.darts[d.0].next = n;
     }
@@ -148,6 +151,7 @@ impl Records {
         requires cycle { HasCycle self.old.faces.tables c }
         ensures graph { graph_part self.new ≡ graph_part self.old }
         ensures faces { self.new.faces ≡ record self.old.faces { tables = on_cycle d c self.old.faces.tables } }
+        ensures mapped { self.new.mapped ≡ self.old.mapped }
     {
         let parts = self.darts[d.0].parts;
         widen(&mut self.cycles, c, parts);
@@ -163,6 +167,7 @@ impl Records {
         ensures graph { self.new.graph ≡ with_source self.old.graph d w }
         ensures spare { IsSpare self.old self.new 0 0 }
         ensures faces { self.new.faces ≡ self.old.faces }
+        ensures mapped { self.new.mapped ≡ self.old.mapped }
     {
         let u = self.darts[d.0].source;
         let twin = self.darts[d.0].twin;

@@ -42,6 +42,7 @@ impl Records {
         ensures ranks { self.new.ranks.ranks ≡ self.old.ranks.ranks }
         ensures graph { graph_part self.new ≡ graph_part self.old }
         ensures faces { self.new.faces ≡ self.old.faces }
+        ensures mapped { self.new.mapped ≡ self.old.mapped }
     {
         self.order.clear();
     }
@@ -53,6 +54,7 @@ impl Records {
         ensures ranks { self.new.ranks.ranks ≡ self.old.ranks.ranks }
         ensures graph { graph_part self.new ≡ graph_part self.old }
         ensures faces { self.new.faces ≡ self.old.faces }
+        ensures mapped { self.new.mapped ≡ self.old.mapped }
     {
         self.order.push_reserved(key);
     }
@@ -74,6 +76,7 @@ impl Records {
         ensures unbounded { AllByRecursion (λ k. k.face ≢ face_id 0) self.old.ranks.order → rank_given self.new (face_id 0) ≡ 0 }
         ensures graph { graph_part self.new ≡ graph_part self.old }
         ensures faces { self.new.faces ≡ self.old.faces }
+        ensures mapped { self.new.mapped ≡ self.old.mapped }
     {
         self.order.sort_unstable();
         give_ranks(&mut self.faces, &self.order);

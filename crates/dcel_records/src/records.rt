@@ -193,6 +193,7 @@ impl Records {
         ensures keeps_darts { self.old.spare_darts ≤ self.new.spare_darts }
         ensures keeps_cycles { self.old.faces.spare_cycles ≤ self.new.faces.spare_cycles }
         ensures keeps_faces { self.old.faces.spare_faces ≤ self.new.faces.spare_faces }
+        ensures mapped { self.new.mapped ≡ self.old.mapped }
     {
         // What is spare is all that the slabs can hold less what they hold, and a `usize` counts it.
         let _vertices = self.vertices.capacity();
@@ -231,6 +232,7 @@ impl Records {
         ensures room { self.old.faces.moved ≡ Some (record { cycles = result.room_of_cycles; vertices = result.room_of_vertices }) }
         ensures graph { graph_part self.new ≡ graph_part self.old }
         ensures faces { self.new.faces ≡ record self.old.faces { moved = None } }
+        ensures mapped { self.new.mapped ≡ self.old.mapped }
     {
         self.moved.take().unwrap()
     }
@@ -240,6 +242,7 @@ impl Records {
         requires { IsRoomFor (record { cycles = moved.room_of_cycles; vertices = moved.room_of_vertices }) self.old.faces.capacity_of_cycles self.old.capacity_of_vertices }
         ensures graph { graph_part self.new ≡ graph_part self.old }
         ensures faces { self.new.faces ≡ record self.old.faces { moved = Some (record { cycles = moved.room_of_cycles; vertices = moved.room_of_vertices }) } }
+        ensures mapped { self.new.mapped ≡ self.old.mapped }
     {
         let mut moved = moved;
         moved.clear();

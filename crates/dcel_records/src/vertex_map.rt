@@ -32,7 +32,8 @@ impl VertexMap {
 
     /// Makes room for so many vertices more, where there is memory.
     pub(crate) fn reserve(&mut self, additional: usize)
-        ensures { (rows : List (ℕ × VertexRecord)) → IsMapOf self.old rows → IsMapOf self.new rows }
+        ensures map { (rows : List (ℕ × VertexRecord)) → IsMapOf self.old rows → IsMapOf self.new rows }
+        ensures whole { self.new.whole ≡ self.old.whole }
     {
         // Without it an entry asks for memory when it is made, and the map may do without the entry.
         let _room = self.vertices.reserve(additional);
@@ -47,7 +48,8 @@ impl VertexMap {
 
     /// A new vertex, at the point.
     pub(crate) fn put(&mut self, point: Point, v: VertexId)
-        ensures { (rows more : List (ℕ × VertexRecord)) → IsMapOf self.old rows → IsOneMore v point rows more → IsMapOf self.new more }
+        ensures map { (rows more : List (ℕ × VertexRecord)) → IsMapOf self.old rows → IsOneMore v point rows more → IsMapOf self.new more }
+        ensures whole { self.new.whole ≡ true → self.old.whole ≡ true }
     {
         if !self.whole {
             return;
@@ -60,7 +62,8 @@ impl VertexMap {
 
     /// The vertex at the point goes.
     pub(crate) fn take(&mut self, point: &Point)
-        ensures { (v : names.VertexId) (rows less : List (ℕ × VertexRecord)) → IsMapOf self.old rows → IsOneMore v point.now less rows → IsMapOf self.new less }
+        ensures map { (v : names.VertexId) (rows less : List (ℕ × VertexRecord)) → IsMapOf self.old rows → IsOneMore v point.now less rows → IsMapOf self.new less }
+        ensures whole { self.new.whole ≡ self.old.whole }
     {
         if self.whole {
             self.vertices.remove(point);

@@ -61,6 +61,7 @@ impl Records {
         ensures lists { lists_of self.new ≡ vertex_listed result face (lists_of self.old) }
         ensures spare_faces { IsSpareFaces self.old.faces self.new.faces 0 0 }
         ensures moved { self.new.faces.moved ≡ self.old.faces.moved }
+        ensures mapped { self.new.mapped ≡ true → self.old.mapped ≡ true }
     {
         // Who has a face of its own has a record, so a new vertex has none yet.
         self.face_laws();
@@ -77,6 +78,7 @@ impl Records {
         ensures graph { self.new.graph ≡ with_vertex self.old.graph result point }
         ensures spare { IsSpare self.new self.old 1 0 }
         ensures faces { self.new.faces ≡ self.old.faces }
+        ensures mapped { self.new.mapped ≡ true → self.old.mapped ≡ true }
     {
         let v = VertexId(
             self.vertices.insert_reserved(StoredVertex {
@@ -100,6 +102,7 @@ impl Records {
         ensures lists { lists_of self.new ≡ vertex_unlisted v (lists_of self.old) }
         ensures spare_faces { IsSpareFaces self.old.faces self.new.faces 0 0 }
         ensures moved { self.new.faces.moved ≡ self.old.faces.moved }
+        ensures mapped { self.new.mapped ≡ self.old.mapped }
     {
         leave_face(&mut self.vertices, &mut self.faces, &mut self.isolated, v);
         let vertex = self.vertices.remove(v.0);
@@ -122,6 +125,7 @@ impl Records {
         ensures graph { self.new.graph ≡ with_pin self.old.graph v true }
         ensures spare { IsSpare self.old self.new 0 0 }
         ensures faces { self.new.faces ≡ self.old.faces }
+        ensures mapped { self.new.mapped ≡ self.old.mapped }
     {
         if self.vertices[v.0].pinned {
             return;
@@ -138,6 +142,7 @@ impl Records {
         ensures graph { self.new.graph ≡ with_pin self.old.graph v false }
         ensures spare { IsSpare self.old self.new 0 0 }
         ensures faces { self.new.faces ≡ self.old.faces }
+        ensures mapped { self.new.mapped ≡ self.old.mapped }
     {
         if !self.vertices[v.0].pinned {
             return;

@@ -1,4 +1,3 @@
 pub mod SeenDarts
 pub mod PointFaces
-pub mod FacesAhead
 pub mod Passings

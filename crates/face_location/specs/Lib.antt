@@ -1,4 +1,3 @@
 pub mod Below
 pub mod Spots
-pub mod Ahead
 pub mod Passing

@@ -5,11 +5,9 @@
 //! below the point are no special case.
 #![tactic(auto)]
 
-mod ahead;
 mod below;
 mod face;
 mod passing;
 
-pub use ahead::face_ahead;
 pub use below::{EdgeFound, edge_at_or_below};
 pub use face::{face_at, face_over};

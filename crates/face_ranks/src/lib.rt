@@ -13,7 +13,7 @@ mod walks;
 ghost use Rattle.face_ranks.specs.Ranks.{FaceIsLocated};
 
 pub use order::{Ranking, rank_of};
-pub use walks::{rank_by_walks, rank_told};
+pub use walks::rank_told;
 
 /// A point on no vertex and no edge lies in the face of the rank that the name of its face has.
 pub fn face_is_located()

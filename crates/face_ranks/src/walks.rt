@@ -61,9 +61,9 @@ fn count_walked(records: &Records, own: &RankKey) -> usize
     count
 }
 
-/// The rank of a face, where nothing that the records keep of ranks holds: one walk along each outer cycle up to the face's own, and
-/// another one along all of them. It takes no memory and changes nothing.
-pub fn rank_by_walks(records: &Records, face: FaceId) -> usize
+// The rank of a face, where nothing that the records keep of ranks holds: one walk along each outer cycle up to the face's own, and
+// another one along all of them.
+fn rank_by_walks(records: &Records, face: FaceId) -> usize
     requires map { IsSoundMap records.now }
     requires face { HasFace (tables_of records.now) face }
     ensures { result ≡ rank_in records.now.graph (tables_of records.now) face }

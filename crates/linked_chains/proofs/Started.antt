@@ -49,3 +49,9 @@ module _ {S : Type 0} (hs : IndexMap ℕ (Option ℕ) S) (ns : Slab Node) (h : C
     | inl q ↦ inr q
     | inr ne ↦ inl (ap (λ c. is_some (row_at c.heads k)) (sym is) ∙ sym (ap is_some (updated hs gs entry.key (Some here) more k ∙ ap (λ b. cond b (Some here) (row_at hs.entries k)) (other_number k entry.key ne))) ∙ s)
   ]
+
+  pub start_keeps : (k : ℕ) → HasKey h k → IsSome (row_at gs.entries k)
+  start_keeps k s = elim (cases_eq k entry.key) [
+    | inl q ↦ absurd (new (subst (λ (z : ℕ). HasKey h z) q s))
+    | inr ne ↦ ap is_some (updated hs gs entry.key (Some here) more k ∙ ap (λ b. cond b (Some here) (row_at hs.entries k)) (other_number k entry.key ne)) ∙ ap (λ c. is_some (row_at c.heads k)) is ∙ s
+  ]

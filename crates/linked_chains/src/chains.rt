@@ -132,6 +132,7 @@ impl Chains {
         ensures here { chain self.new key ≡ result ∷ chain self.old key }
         ensures others { (k : _) → k ≢ key → chain self.new k ≡ chain self.old k }
         ensures keys { (k : _) → HasKey self.new k → HasKey self.old k ⊎ (k ≡ key) }
+        ensures keeps { (k : _) → HasKey self.old k → HasKey self.new k }
         ensures spare_keys { self.old.spare_keys ≤ self.new.spare_keys + 1 }
         ensures spare_nodes { self.old.spare_nodes ≡ self.new.spare_nodes + 1 }
         ensures capacity { self.new.capacity_of_nodes ≡ self.old.capacity_of_nodes }

@@ -5,7 +5,7 @@ use std::alloc::{AllocError, AllocFailed};
 
 /// Why there are no rings.
 #[derive(Clone, Copy, Debug, PartialEq, Eq)]
-pub enum RingsError {
+pub(crate) enum RingsError {
     /// The darts aren't a closed border: two ends at one vertex lead in one direction, or some dart isn't followed by any.
     NotClosed,
     /// There was no memory.

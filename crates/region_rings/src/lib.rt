@@ -24,7 +24,7 @@
 //!
 //! # What is proved
 //!
-//! `rings_of`, and `rings_along` for any list of darts, say:
+//! `rings_of` says:
 //!
 //! - `sides`, `all`, `once`, `counted`: the sides of the rings, from each corner to the next and from the last to the first, are the
 //!   darts, each in one place of one ring (`cut`: no ring is empty);
@@ -32,13 +32,12 @@
 //! - `holes`: a ring is told to be a hole exactly where it turns wide at its least corner (`IsHole`);
 //! - `leasts`: of each ring its least corner is told;
 //! - `outers`: each hole is told an outer ring that goes round its least corner, and no outer ring round that has a greater least
-//!   corner; it is told none only where no outer ring goes round (`IsInnermost`);
-//! - `error`: `RingsError::NotClosed` is answered only of a list that is no closed border (`IsClosedBorder`): two ends of darts at one
-//!   vertex lead in one direction, or a dart isn't followed by any, by the rule.
+//!   corner; it is told none only where no outer ring goes round (`IsInnermost`).
 //!
-//! The border of a region is closed (`Region::laws`), so `rings_of` refuses none: there are rings, or there was no memory. For going
-//! clockwise round a vertex from a dart that comes in, what is on its left stays inside up to the first dart that has the inside on one
-//! side alone. That one goes out with the inside on its left.
+//! This is proved for any list of darts that is a closed border (`IsClosedBorder`): no two ends of darts at one vertex lead in one
+//! direction, and each dart is followed by one, by the rule. The border of a region is closed (`Region::laws`), so there are rings, or
+//! there was no memory. For going clockwise round a vertex from a dart that comes in, what is on its left stays inside up to the first
+//! dart that has the inside on one side alone. That one goes out with the inside on its left.
 //!
 //! Its edges alone are a plane graph, whose even-odd set is the inside (`Region::laws`). So of a region `rings_of` tells more:
 //!
@@ -72,5 +71,4 @@ mod tables;
 #[cfg(test)]
 mod tests;
 
-pub use errors::RingsError;
-pub use rings::{Rings, rings_along, rings_of};
+pub use rings::{Rings, rings_of};

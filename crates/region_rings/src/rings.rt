@@ -111,12 +111,8 @@ fn sources_of(
     Ok(points)
 }
 
-/// The rings that the darts of a border make. It takes n log n steps for n darts, and n for each hole.
-///
-/// # Errors
-///
-/// The darts aren't a closed border, or there was no memory.
-pub fn rings_along(alloc: Global, darts: &[(Point, Point)]) -> Result<Rings, RingsError>
+/// The rings that the darts of a border make, or why there are none: the darts aren't a closed border, or there was no memory.
+pub(crate) fn rings_along(alloc: Global, darts: &[(Point, Point)]) -> Result<Rings, RingsError>
     ensures rings { IfOk result (AreRingsOf darts.now) }
     ensures error { IfErr result (IsErrorOf darts.now) }
 {

@@ -1,6 +1,8 @@
 // Rings whose corners were found by hand. No contract tells where a ring begins, nor which comes first: here each begins with its first
 // dart in the list, and they come in the order of these.
-use crate::{Rings, RingsError, rings_along};
+use crate::Rings;
+use crate::errors::RingsError;
+use crate::rings::rings_along;
 use exact_plane::Point;
 use std::alloc::Global;
 use std::test::Fail;

@@ -17,7 +17,7 @@ invariant_of-self c = record {
   graph = record {
     rows = vertex_kept c.self.inside.vertices c.self.inside.darts _ (graph_seen c.self.inside _ c.self.view_is) c.self.invariant.graph.rows _ (vertex_id c.insert_reserved.result) c.args.point
         c.insert_reserved.ensures.was_vacant c.insert_reserved.ensures.updates;
-    mapped = c.put.ensures _ _ c.self.invariant.graph.mapped
+    mapped = c.put.ensures.map _ _ c.self.invariant.graph.mapped
         (one_apart c.self.inside.vertices c.insert_reserved.new.self c.insert_reserved.result _ c.insert_reserved.ensures.was_vacant c.insert_reserved.ensures.updates.changed c.insert_reserved.ensures.updates.others);
     counted = pins_put c.self.inside.vertices c.insert_reserved.new.self c.insert_reserved.result c.args.point _ c.insert_reserved.ensures.was_vacant c.insert_reserved.ensures.updates c.self.invariant.graph.counted;
   };

@@ -40,7 +40,7 @@ invariant_of-self c = record {
         (graph_left c.self.inside.vertices c.leave_face.new.vertices c.self.inside.darts c.leave_face.ensures.left.kept.rests _ (graph_seen c.self.inside _ c.self.view_is))
         (graph_sound c.self.inside.vertices c.leave_face.new.vertices c.self.inside.darts c.leave_face.ensures.left.kept.rests _ c.self.invariant.graph).rows _ c.args.v c.requires.bare
         c.remove-vertex.ensures.updates;
-    mapped = c.take.ensures c.args.v _ _ (graph_sound c.self.inside.vertices c.leave_face.new.vertices c.self.inside.darts c.leave_face.ensures.left.kept.rests _ c.self.invariant.graph).mapped
+    mapped = c.take.ensures.map c.args.v _ _ (graph_sound c.self.inside.vertices c.leave_face.new.vertices c.self.inside.darts c.leave_face.ensures.left.kept.rests _ c.self.invariant.graph).mapped
         (one_apart c.remove-vertex.new.self c.leave_face.new.vertices c.args.v.0 c.remove-vertex.result c.remove-vertex.ensures.updates.changed c.remove-vertex.ensures.value (λ n ne. sym (c.remove-vertex.ensures.updates.others n ne)));
     counted =
         let k = (graph_sound c.self.inside.vertices c.leave_face.new.vertices c.self.inside.darts c.leave_face.ensures.left.kept.rests _ c.self.invariant.graph).counted in
@@ -71,7 +71,7 @@ invariant_of-self-else-vertex c = record {
         (graph_left c.self.inside.vertices c.leave_face.new.vertices c.self.inside.darts c.leave_face.ensures.left.kept.rests _ (graph_seen c.self.inside _ c.self.view_is))
         (graph_sound c.self.inside.vertices c.leave_face.new.vertices c.self.inside.darts c.leave_face.ensures.left.kept.rests _ c.self.invariant.graph).rows _ c.args.v c.requires.bare
         c.remove-vertex.ensures.updates;
-    mapped = c.take.ensures c.args.v _ _ (graph_sound c.self.inside.vertices c.leave_face.new.vertices c.self.inside.darts c.leave_face.ensures.left.kept.rests _ c.self.invariant.graph).mapped
+    mapped = c.take.ensures.map c.args.v _ _ (graph_sound c.self.inside.vertices c.leave_face.new.vertices c.self.inside.darts c.leave_face.ensures.left.kept.rests _ c.self.invariant.graph).mapped
         (one_apart c.remove-vertex.new.self c.leave_face.new.vertices c.args.v.0 c.remove-vertex.result c.remove-vertex.ensures.updates.changed c.remove-vertex.ensures.value (λ n ne. sym (c.remove-vertex.ensures.updates.others n ne)));
     counted =
         let k = (graph_sound c.self.inside.vertices c.leave_face.new.vertices c.self.inside.darts c.leave_face.ensures.left.kept.rests _ c.self.invariant.graph).counted in

@@ -26,7 +26,7 @@ invariant_of-self-in_err-grow_order-in-Some c =
 
 pub invariant_of-self-in-Some : goal.invariant_of-self-in-Some
 invariant_of-self-in-Some c =
-    sound_grown c.self.inside _ (c.grow.ensures.vertices, c.grow.ensures.darts, c.grow.ensures.cycles, c.grow.ensures.faces) c.reserve.ensures refl refl c.self.invariant
+    sound_grown c.self.inside _ (c.grow.ensures.vertices, c.grow.ensures.darts, c.grow.ensures.cycles, c.grow.ensures.faces) c.reserve.ensures.map refl refl c.self.invariant
     (subst (λ n. IsRoom n c.grow.new.vertices) (sym c.promise-vertices.ensures)
     (raised_room c.self.inside.vertices c.grow.new.vertices c.grow.ensures.vertices c.self.inside.vertex_room c.args.room.vertices c.self.invariant.vertex_room
     c.in_ok-grow-in-Some.ensures.room_of_vertices))
