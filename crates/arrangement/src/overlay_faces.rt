@@ -4,12 +4,15 @@ ghost use Rattle.slab_laws.specs.FacesSound.{IsSound};
 ghost use Rattle.slab_laws.specs.View.{HasDart, HasFace, HasVertex};
 ghost use Rattle.subdivision_rows.specs.OverlayInMemory.{graph_of, faces_in};
 ghost use Rattle.dart_walks.specs.DartWalks.{AreAlong, AreJust, AreRound};
+ghost use Rattle.face_location.specs.Spots.{IsSpotOf};
 ghost use Rattle.listed_faces.specs.Boundaries.{AreDartsOnCycles};
 ghost use Rattle.listed_faces.specs.FaceParts.{AreBoundariesOf, IsIsolatedIn, face_left};
 ghost use Rattle.listed_faces.specs.Located.{IsListedFaceAt, IsInNoListedFace};
+ghost use Rattle.arrangement.specs.SpotCells.{HasSpot};
 
 use crate::overlaid::Overlay;
 use dart_walks::{Along, Round};
+use dcel_records::Spot;
 use exact_plane::Point;
 use no_memory::NoMemory;
 use slab_laws::{CycleKind, DartId, FaceId, Faced, VertexId};
@@ -23,6 +26,18 @@ impl Overlay {
     {
         // Any use of a field tells what is kept.
         let _both = &self.both;
+    }
+
+    /// Where a point lies: the vertex at it, else the edge that has it inside, by its dart from the lower to the upper end, else the face
+    /// that it lies in (CGAL manual, point location).
+    ///
+    /// A search among the vertices, and one look at each edge. It takes no memory.
+    pub fn locate(&self, p: &Point) -> Spot
+        ensures spot { IsSpotOf (graph_of self.now) (faces_in self.now) p.now result }
+        ensures has { HasSpot (graph_of self.now) (faces_in self.now) result }
+    {
+        self.laws();
+        listed_faces::locate(self.both.rows(), p)
     }
 
     /// The face that a point lies in, by its number; `None` where the point is a vertex or lies on an edge (CGAL manual, point location).

@@ -1,6 +1,6 @@
 -- A dart on each boundary, by one look at each dart; and those of the boundaries of a face.
-use Rattle.std.proofs.Common.{◌≡◌, ◌≢◌, ℕ, suc, ◌+◌, ◌<◌, Bool, true, List, [], ◌∷◌, map, filter, length, get_or, set, take, Option, Some, None, refl, sym, ap, ap₂, subst, ◌∙◌, inl, inr, arith, Contains}
-use Rattle.std.specs.Prelude.{IsSome, slice_get, ◌==◌, ◌&&◌}
+use Rattle.std.proofs.Common.{◌≡◌, ℕ, suc, ◌+◌, ◌<◌, Bool, true, List, [], ◌∷◌, map, filter, length, get_or, set, Option, Some, None, refl, sym, ap, subst, ◌∙◌, inl, inr, arith}
+use Rattle.std.specs.Prelude.{IsSome, slice_get, ◌==◌}
 use Rattle.std.specs.Option.{option_map}
 use Rattle.std.proofs.lemmas.Bool.{cases_eq, and_parts, and_from, eqb-true, eq-eqb, false≢true}
 use Rattle.std.proofs.lemmas.Grind.{get_or-set_at}
@@ -18,13 +18,12 @@ use Rattle.slab_laws.specs.declared.names.FaceId.{FaceId}
 use Rattle.slab_laws.specs.FaceLists.{AreOnce}
 use Rattle.slab_laws.specs.FacesSound.{IsComplete}
 use Rattle.slab_laws.specs.Subdivision.{Cycle}
-use Rattle.slab_laws.specs.Tables.{names, row_at, NamesAscend}
+use Rattle.slab_laws.specs.Tables.{names, NamesAscend}
 use Rattle.slab_laws.specs.Text.{numbered}
 use Rattle.slab_laws.specs.View.{View, Faces, HasDart, HasCycle, cycle_id, dart_id, face_id, cycle_in, face_in, kind_in, dart_after_in}
 use Rattle.sound_views.proofs.ListedRows.{is_some_by, numbered_row}
 use Rattle.sound_views.proofs.NamesMet.{AllDarts, no_dart_yet, one_dart_more, darts_still}
 use Rattle.sound_views.proofs.NameTables.{has_name, name_has}
-use Rattle.dart_walks.specs.DartWalks.{AreJust}
 use Rattle.subdivision_rows.specs.Listed.{Drawing, cycle_record, subdivision_in, view_of, faces_of}
 use Rattle.subdivision_rows.proofs.ListedRecords.{mapped_value}
 use Rattle.listed_faces.specs.Boundaries.{bounds, AreDartsOnCycles}

@@ -1,9 +1,6 @@
 -- What location answers of a point, by the face over the highest edge below it.
-use Rattle.std.proofs.Common.{◌≡◌, ◌≢◌, ℕ, ◌<◌, true, false, List, length, get_or, Some, None, Ok, Err, Result, refl, sym, ap, subst, ◌∙◌, arith, Contains, Equal}
-use Rattle.std.specs.Prelude.{slice_get, is_ok}
-use Rattle.std.specs.List.{position_or_len}
-use Rattle.std.specs.List.Sorted.{IsBinarySearchResult, IsSearchInRange}
-use Rattle.std.proofs.lemmas.Bool.{false≢true, true≢false}
+use Rattle.std.proofs.Common.{◌≡◌, ◌≢◌, ℕ, ◌<◌, true, length, get_or, Some, Err, sym, ap, subst, ◌∙◌, Contains, Equal}
+use Rattle.std.specs.List.Sorted.{IsBinarySearchResult}
 use Rattle.std.proofs.lemmas.Option.{slice_get-get_or, slice_get_within}
 use Rattle.exact_plane.specs.Point.{Point}
 use Rattle.exact_plane.specs.PointOrder.{point_cmp}
@@ -20,7 +17,7 @@ use Rattle.slab_laws.specs.FacesSound.{IsSound}
 use Rattle.slab_laws.specs.Skeleton.{Skeleton, inside}
 use Rattle.slab_laws.specs.Sound.{skeleton_of, edge_in}
 use Rattle.slab_laws.specs.Subdivision.{subdivision, holds, rank, first_cell}
-use Rattle.slab_laws.specs.View.{HasDart, HasVertex, HasFace, face_id, point_in}
+use Rattle.slab_laws.specs.View.{HasDart, HasVertex, HasFace, face_id, vertex_id, point_in}
 use Rattle.slab_faces.proofs.FacesLemmas.{cells_exact}
 use Rattle.slab_faces.proofs.LocationLemmas.{location_is}
 use Rattle.slab_faces.proofs.Member.{member_in}
@@ -32,11 +29,10 @@ use Rattle.dart_orbits.proofs.SearchedLists.{absent}
 use Rattle.face_changes.proofs.FacesByPairs.{outer_cycles_follow}
 use Rattle.dcel_records.specs.Spots.{IsInFace}
 use Rattle.face_steps.specs.VertexSteps.{IsFaceRound}
-use Rattle.face_ranks.specs.Ranks.{rank_in}
 use Rattle.face_ranks.proofs.Located.{rank_is, face_is_located}
 use Rattle.subdivision_rows.specs.Listed.{Drawing, skeleton_in, subdivision_in, view_of, faces_of, AreLinesOf}
 use Rattle.subdivision_rows.proofs.ListedFaces.{has_face, face_within}
-use Rattle.subdivision_rows.proofs.ListedRecords.{vertex_of, point_of}
+use Rattle.subdivision_rows.proofs.ListedRecords.{IsVertex, vertex_of, has_vertex, point_of}
 use Rattle.subdivision_rows.proofs.ListsComplete.{complete}
 use Rattle.subdivision_rows.proofs.ListsCycled.{cycled}
 use Rattle.subdivision_rows.proofs.ListsDrawn.{view_draws}
@@ -44,14 +40,24 @@ use Rattle.subdivision_rows.proofs.ListsFaced.{cell, faced}
 use Rattle.subdivision_rows.proofs.ListsGraphSound.{graph_sound}
 use Rattle.listed_faces.specs.Located.{IsListedFaceAt, IsInNoListedFace}
 
--- ---- a search among points in their order
-pub found_there : (ps : List Point) (p : Point) (r : Result ℕ ℕ) → IsSearchInRange r (length ps) → IsBinarySearchResult (λ q. point_cmp q p) ps r → is_ok r ≡ true → Contains ps p
-found_there ps p (Ok i) l s e = (i, l, one_point (get_or ps i p) p (s p))
-found_there ps p (Err i) l s e = absurd (false≢true e)
+-- ---- a search among the vertices, by their points
+module _ (d : Drawing) (p : Point) where
+  -- the vertex is at the point
+  abbrev pub IsThere : VertexId → Type 0
+  IsThere w = HasVertex (view_of d) w × (point_in (view_of d) w ≡ p)
 
-pub not_found : (ps : List Point) (p : Point) (r : Result ℕ ℕ) → IsAscending point_cmp ps → IsBinarySearchResult (λ q. point_cmp q p) ps r → is_ok r ≡ false → ¬ Contains ps p
-not_found ps p (Ok i) a s e = λ c. absurd (true≢false e)
-not_found ps p (Err i) a s e = λ c. absent point_cmp point_cmp_total p ps i a s c
+  pub found_there : (i : ℕ) → i < length d.graph.points → point_cmp (get_or d.graph.points i p) p ≡ Equal → IsThere (vertex_id i)
+  found_there i l s =
+      let at : IsVertex d (vertex_id i) p = slice_get-get_or d.graph.points i p l ∙ ap Some (one_point (get_or d.graph.points i p) p s) in
+      (has_vertex d (vertex_id i) p at, point_of d (vertex_id i) p at)
+
+  pub there_contained : (w : VertexId) → IsThere w → Contains d.graph.points p
+  there_contained w t =
+      let k = vertex_of d w t.0 in
+      subst (Contains d.graph.points) (sym (point_of d w k.0 k.1) ∙ t.1) (member_in d.graph.points k.0 (slice_get_member d.graph.points w.0 k.0 k.1))
+
+  pub not_found : (i : ℕ) → IsAscending point_cmp d.graph.points → IsBinarySearchResult (λ q. point_cmp q p) d.graph.points (Err i) → (w : VertexId) → HasVertex (view_of d) w → point_in (view_of d) w ≢ p
+  not_found i a s w W e = absent point_cmp point_cmp_total p d.graph.points i a s (there_contained w (W, e))
 
 module _ (d : Drawing) (plane : IsPlane d.graph) (lines : AreLinesOf d) where
   -- each face goes by its least cell
@@ -81,16 +87,11 @@ module _ (d : Drawing) (plane : IsPlane d.graph) (lines : AreLinesOf d) where
   }
 
   -- ---- on vertices and edges
-  pub vertex_in_none : (p : Point) → Contains d.graph.points p → IsInNoListedFace d p
-  vertex_in_none p h n q = let k : Vertex p ≡ Face n = sym (location_is.on_vertex (skeleton_in d) p h) ∙ q in absurd (cc)
+  pub vertex_in_none : (p : Point) (w : VertexId) → IsThere d p w → IsInNoListedFace d p
+  vertex_in_none p w t n q = let k : Vertex p ≡ Face n = sym (location_is.on_vertex (skeleton_in d) p (there_contained d p w t)) ∙ q in absurd (cc)
 
   pub edge_in_none : (p : Point) (e : DartId) → HasDart (view_of d) e → inside (edge_in (view_of d) e) p ≡ true → IsInNoListedFace d p
   edge_in_none p e E h n q =
       let at = location_is.on_edge (skeleton_of (view_of d)) (edge_in (view_of d) e) p (graph_sound d plane lines).plane (edge_known (view_of d) e E) h in
       let k : OnEdge at.edge.low at.edge.high ≡ Face n = sym at.located ∙ ap (λ (g : Skeleton). holds (subdivision g) p) (view_draws d plane) ∙ q in
       absurd (cc)
-
-  pub no_vertex_at : (p : Point) → ¬ Contains d.graph.points p → (w : VertexId) → HasVertex (view_of d) w → point_in (view_of d) w ≢ p
-  no_vertex_at p none w W q =
-      let k = vertex_of d w W in
-      none (subst (Contains d.graph.points) (sym (point_of d w k.0 k.1) ∙ q) (member_in d.graph.points k.0 (slice_get_member d.graph.points w.0 k.0 k.1)))

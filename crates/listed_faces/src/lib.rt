@@ -10,4 +10,4 @@ mod location;
 
 pub use boundaries::{boundaries_of, darts_on_boundaries, is_kind};
 pub use isolated::isolated_in;
-pub use location::face_at;
+pub use location::{face_at, locate};

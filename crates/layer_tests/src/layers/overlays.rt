@@ -1,10 +1,15 @@
+ghost use Rattle.std.specs.Prelude.{IfSome};
+ghost use Rattle.subdivision_rows.specs.OverlayInMemory.{graph_of, faces_in};
 ghost use Rattle.arrangement.specs.Arranged.{arranged, IsWatched};
+ghost use Rattle.arrangement.specs.SpotCells.{HasSpot};
 
 use crate::layers::calls::{Call, all_right};
 use crate::layers::edits::{Answer, Edit, Under, layer_under};
 use crate::layers::overlay_texts::overlays_are_alike;
 use crate::layers::script_edits::apply;
 use arrangement::{Arrangement, Overlay, overlay};
+use dcel_records::Spot;
+use exact_plane::Point;
 use no_memory::NoMemory;
 use script_lines::{Command, read_line};
 use script_maker::{LINE_ROOM, Maker};
@@ -84,6 +89,34 @@ fn tells_shared_edge(alloc: Global, both: &Overlay) -> Result<bool, NoMemory> {
     Ok(upward && downward && left && right)
 }
 
+// Where the point of two whole coordinates lies.
+fn spot_at(both: &Overlay, x: i128, y: i128) -> Option<Spot>
+    ensures { IfSome result (HasSpot (graph_of both.now) (faces_in both.now)) }
+{
+    match Point::new(x, y, 1) {
+        Ok(point) => Some(both.locate(&point)),
+        Err(_) => None,
+    }
+}
+
+// The ranks of the red and of the blue face that hold the face that such a point lies in.
+fn faces_at(both: &Overlay, x: i128, y: i128) -> Option<(usize, usize)> {
+    match spot_at(both, x, y) {
+        Some(Spot::Face(face)) => Some((both.red_of(face), both.blue_of(face))),
+        _ => None,
+    }
+}
+
+// Whether points lie where they have to: at the pin, inside the shared edge, in the red square alone, in the blue one alone, in neither.
+fn tells_places(both: &Overlay) -> bool {
+    let at_pin = spot_at(both, 2, 0) == Some(Spot::Vertex(VertexId(2)));
+    let on_edge = spot_at(both, 4, 2) == Some(Spot::Edge(DartId(7)));
+    let in_red = faces_at(both, 1, 1) == Some((1, 0));
+    let in_blue = faces_at(both, 5, 2) == Some((0, 1));
+    let outside = faces_at(both, 9, 9) == Some((0, 0));
+    at_pin && on_edge && in_red && in_blue && outside
+}
+
 // Whether each segment is drawn.
 fn draw(alloc: Global, layer: &mut Arrangement, calls: &[Call]) -> Result<bool, Fail>
     requires watched { IsWatched (arranged Observer-dyn layer.old) }
@@ -100,8 +133,9 @@ fn is_told(alloc: Global, red: &Arrangement, blue: &Arrangement) -> Result<bool,
     let both = overlay(alloc, red, blue)?;
     let told = tells_shared_edge(alloc, &both);
     let pinned = is_pin(&both, BEFORE_PIN);
+    let placed = tells_places(&both);
     drop(both);
-    Ok(told? && pinned)
+    Ok(told? && pinned && placed)
 }
 
 // The same over a blue layer of its own.

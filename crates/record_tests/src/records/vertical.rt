@@ -1,7 +1,6 @@
 // What lies directly above and below each vertex of a layer.
 
 ghost use Rattle.arrangement.specs.Arranged.{arranged, IsWatched};
-ghost use Rattle.dcel_records.specs.SoundMaps.{IsSoundMap};
 
 use crate::records::squares::{at, draw, nothing};
 use crate::shapes::Ends;
@@ -13,7 +12,7 @@ use no_memory::NoMemory;
 use slab_laws::{DartId, VertexId};
 use std::alloc::Global;
 use std::test::Fail;
-use vertical_parts::{Next, Part, parts};
+use vertical_parts::{Next, Part};
 
 struct Case {
     name: &'static str,
@@ -154,13 +153,11 @@ fn write_part(text: &mut Vec<u8>, records: &Records, part: &Part) -> Result<(), 
     Ok(())
 }
 
-fn parts_text(alloc: Global, records: &Records) -> Result<Vec<u8>, NoMemory>
-    requires { IsSoundMap records.now }
-{
-    let found = parts(alloc, records)?;
+fn parts_text(alloc: Global, layer: &Arrangement) -> Result<Vec<u8>, NoMemory> {
+    let found = layer.vertical_parts()?;
     let mut text = Vec::new(alloc);
     for part in &found {
-        write_part(&mut text, records, part)?;
+        write_part(&mut text, layer.records(), part)?;
     }
     Ok(text)
 }
@@ -195,7 +192,7 @@ fn found_in(alloc: Global, case: &Case) -> Result<Vec<u8>, NoMemory> {
     let mut layer = nothing(alloc)?;
     draw_case(&mut layer, case);
     pin_case(&mut layer, case);
-    let text = parts_text(alloc, layer.records());
+    let text = parts_text(alloc, &layer);
     drop(layer);
     text
 }

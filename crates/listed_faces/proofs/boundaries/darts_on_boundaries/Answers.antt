@@ -1,6 +1,5 @@
 use Rattle.std.proofs.Common.{rules, ◌≡◌, ◌<◌, length, ap, sym, subst, ◌∙◌, arith, set}
 use Rattle.slab_laws.specs.declared.names.CycleId.{CycleId}
-use Rattle.slab_laws.specs.View.{HasCycle, cycle_in}
 use Rattle.sound_views.proofs.NamesMet.{dart_has, fewer_darts, all_darts}
 use Rattle.subdivision_rows.specs.Listed.{view_of, faces_of, subdivision_in}
 use Rattle.listed_faces.proofs.KeptDarts.{IsKept, none_kept, one_kept, kept_all, cycle_below}
