@@ -29,7 +29,7 @@ ghost use Rattle.arrangement.specs.SpotCells.{HasSpot, cell_named};
 use crate::counted::{insert_counted, insert_path_counted};
 use crate::layer_records::{Findings, LayerRecords};
 use crate::limits::Limits;
-use crate::spots::{starts_of, walk_to};
+use crate::spots::{spot_at, starts_of};
 use curve_history::History;
 use dcel_records::{Records, Spot};
 use exact_plane::{Path, Point, Segment};
@@ -126,7 +126,7 @@ impl Arrangement {
         ensures limits { (arranged Observer-dyn self.new).limits ≡ (arranged Observer-dyn self.old).limits }
         ensures watched { IsWatched (arranged Observer-dyn self.new) }
     {
-        let start = walk_to(&self.layer.records, &segment.lower());
+        let start = spot_at(&self.layer.records, &self.layer.history, &segment.lower());
         self.layer.findings.forget();
         insert_counted::<Brand>(
             Blank::new(1),
@@ -157,7 +157,7 @@ impl Arrangement {
         ensures watched { IsWatched (arranged Observer-dyn self.new) }
     {
         let sides = path.sides();
-        let starts = starts_of(&self.layer.records, sides);
+        let starts = starts_of(&self.layer.records, &self.layer.history, sides);
         let (starts, _) = starts.split_at(sides.len());
         self.layer.findings.forget();
         insert_path_counted::<Brand>(
@@ -236,7 +236,7 @@ impl Arrangement {
         ensures limits { (arranged Observer-dyn self.new).limits ≡ (arranged Observer-dyn self.old).limits }
         ensures watched { IsWatched (arranged Observer-dyn self.new) }
     {
-        let at = walk_to(&self.layer.records, p);
+        let at = spot_at(&self.layer.records, &self.layer.history, p);
         self.layer.findings.forget();
         pin(
             self.alloc,

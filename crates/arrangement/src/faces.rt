@@ -9,7 +9,7 @@ ghost use Rattle.dart_walks.specs.DartWalks.{AreAlong, AreJust, AreRound};
 ghost use Rattle.listed_faces.specs.FaceParts.{AreBoundariesOf, IsIsolatedIn, face_left, is_kind};
 
 use crate::arrangement::Arrangement;
-use crate::spots::walk_to;
+use crate::spots::spot_at;
 use dart_walks::{Along, Round};
 use dcel_records::{Records, Spot};
 use exact_plane::Point;
@@ -76,14 +76,14 @@ fn listed_isolated(
 impl Arrangement {
     /// The face that a point lies in, by its name; `None` where the point is a vertex or lies on an edge (CGAL manual, point location).
     ///
-    /// It is found by a walk, as [`locate`](Arrangement::locate) finds it under `Strategy::Walk`: looked at are the boundaries of the faces below the
-    /// point. It takes no memory.
+    /// It is found by the vertices' hash and the index over the pieces: looked at are the pieces whose boxes a ray down from the point meets. Where
+    /// memory for the index was refused, it is found by a walk, as [`locate`](Arrangement::locate) finds it under `Strategy::Walk`. It takes no memory.
     pub fn face_at(&self, p: &Point) -> Option<FaceId>
         ensures face { IfSome result (IsFaceAt (arranged Observer-dyn self.now) p.now) }
         ensures none { IfNone result (IsInNoFace (arranged Observer-dyn self.now) p.now) }
     {
         p.laws();
-        match walk_to(&self.layer.records, p) {
+        match spot_at(&self.layer.records, &self.layer.history, p) {
             Spot::Vertex(_) => None,
             Spot::Edge(_) => None,
             Spot::Face(face) => Some(face),

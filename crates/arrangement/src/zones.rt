@@ -4,12 +4,14 @@ ghost use Rattle.exact_plane.specs.Segment.{AreEnds};
 ghost use Rattle.dcel_records.specs.RecordsView.{tables_of};
 ghost use Rattle.dcel_records.specs.SoundMaps.{IsSoundMap};
 ghost use Rattle.face_location.specs.Spots.{IsSpotOf};
+ghost use Rattle.told_steps.specs.RecordLayers.{IsLayer};
 ghost use Rattle.zone_walk.specs.Zone.{IsZoneOf};
 ghost use Rattle.arrangement.specs.Arranged.{arranged};
 ghost use Rattle.arrangement.specs.Zones.{is_met, IsZoneIn, MeetsNone, MeetsSome};
 
 use crate::arrangement::Arrangement;
-use crate::spots::walk_to;
+use crate::spots::spot_at;
+use curve_history::History;
 use dcel_records::{Records, Spot};
 use exact_plane::Segment;
 use no_memory::NoMemory;
@@ -52,12 +54,18 @@ fn zone_counted<L: Ledger>(
 }
 
 // The zone of a segment in the records, from where its lower end lies.
-fn zone_in(alloc: Global, records: &Records, segment: &Segment) -> Result<ZonePlan, NoMemory>
+fn zone_in(
+    alloc: Global,
+    records: &Records,
+    history: &History,
+    segment: &Segment,
+) -> Result<ZonePlan, NoMemory>
     requires map { IsSoundMap records.now }
+    requires layer { IsLayer records.now.graph history.now }
     ensures zone { IfOk result (IsZoneOf records.now.graph (tables_of records.now) segment.now) }
     ensures ends { AreEnds segment.now }
 {
-    let start = walk_to(records, &segment.lower());
+    let start = spot_at(records, history, &segment.lower());
     zone_counted::<Brand>(Blank::new(1), alloc, records, segment, start)
 }
 
@@ -105,7 +113,12 @@ impl Arrangement {
     pub fn zone(&self, segment: &Segment) -> Result<Zone, NoMemory>
         ensures { IfOk result (IsZoneIn (arranged Observer-dyn self.now) segment.now) }
     {
-        let plan = zone_in(self.alloc, &self.layer.records, segment)?;
+        let plan = zone_in(
+            self.alloc,
+            &self.layer.records,
+            &self.layer.history,
+            segment,
+        )?;
         Ok(Zone {
             meetings: plan.vertices,
             between: plan.between,
@@ -124,7 +137,12 @@ impl Arrangement {
         ensures some { IfOk result (λ b. b ≡ true → MeetsSome (arranged Observer-dyn self.now) segment.now) }
         ensures none { IfOk result (λ b. b ≡ false → MeetsNone (arranged Observer-dyn self.now) segment.now) }
     {
-        let plan = zone_in(self.alloc, &self.layer.records, segment)?;
+        let plan = zone_in(
+            self.alloc,
+            &self.layer.records,
+            &self.layer.history,
+            segment,
+        )?;
         Ok(meets_any(&plan))
     }
 }

@@ -16,4 +16,4 @@ returns-in-Some c n =
     (start_again c.args.records.now.graph (tables_of c.args.records.now) c.args.sides.now c.args.before.now c.args.starts.now c.lower-lower.result c.in-Some.spot c.in-Some.ensures c.requires.known (subst (λ p. list_any (λ t. has_behind t p) c.args.sides.now ≡ false) (sym c.lower-lower.ensures.value) n))
 
 pub returns-in-None : goal.returns-in-None
-returns-in-None c n = subst (λ p. IsSpotOf c.args.records.now.graph (tables_of c.args.records.now) p c.walk_to.result) c.lower-lower.ensures.value c.walk_to.ensures
+returns-in-None c n = subst (λ p. IsSpotOf c.args.records.now.graph (tables_of c.args.records.now) p c.spot_at.result) c.lower-lower.ensures.value c.spot_at.ensures

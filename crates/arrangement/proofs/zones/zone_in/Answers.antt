@@ -7,5 +7,5 @@ zone_counted-requires c = record {
   parts = refl;
   some = omega arith;
   map = c.requires.map;
-  start = let at : c.lower.result ≡ c.args.segment.now.lower = c.lower.ensures.value in rw (← at) c.walk_to-start.ensures;
+  start = let at : c.lower.result ≡ c.args.segment.now.lower = c.lower.ensures.value in rw (← at) c.spot_at-start.ensures;
 }

@@ -3,8 +3,8 @@ use Rattle.edit_steps.specs.Edits.{Insert}
 use Rattle.arrangement.proofs.Edits.{edited_by, as_before}
 use Rattle.arrangement.proofs.arrangement.Arrangement.insert.Goals as goal
 
-pub walk_to-start-requires : goal.walk_to-start-requires
-walk_to-start-requires g c = c.self.invariant.1.0.map
+pub spot_at-start-requires : goal.spot_at-start-requires
+spot_at-start-requires g c = record { map = c.self.invariant.1.0.map; layer = c.self.invariant.0 }
 
 pub insert_counted-requires : goal.insert_counted-requires
 insert_counted-requires g c = record {
@@ -14,7 +14,7 @@ insert_counted-requires g c = record {
   layer = c.self.invariant.0;
   map = c.self.invariant.1.0;
   watched = rw (← c.self.view_is) at c.requires.watched;
-  start = let at : c.lower.result ≡ c.args.segment.lower = c.lower.ensures.value in rw (← at) c.walk_to-start.ensures;
+  start = let at : c.lower.result ≡ c.args.segment.lower = c.lower.ensures.value in rw (← at) c.spot_at-start.ensures;
 }
 
 pub returns : goal.returns

@@ -5,7 +5,7 @@ use Rattle.arrangement.proofs.Started.{started_as}
 use Rattle.arrangement.proofs.arrangement.Arrangement.insert_path.Goals as goal
 
 pub starts_of-starts-requires : goal.starts_of-starts-requires
-starts_of-starts-requires g c = record { map = c.self.invariant.1.0.map; few = rw c.sides-sides.ensures.value c.sides-sides.ensures.count.few }
+starts_of-starts-requires g c = record { map = c.self.invariant.1.0.map; layer = c.self.invariant.0; few = rw c.sides-sides.ensures.value c.sides-sides.ensures.count.few }
 
 pub insert_path_counted-requires : goal.insert_path_counted-requires
 insert_path_counted-requires g c = record {

@@ -3,7 +3,7 @@ use Rattle.arrangement.proofs.ZonesMet.{none_met, some_met}
 use Rattle.arrangement.proofs.arrangement.Arrangement.meets.Goals as goal
 
 pub zone_in-requires : goal.zone_in-requires
-zone_in-requires g c = record { map = c.self.invariant.1.0.map }
+zone_in-requires g c = record { map = c.self.invariant.1.0.map; layer = c.self.invariant.0 }
 
 pub returns-clause-some : goal.returns-clause-some
 returns-clause-some g c =

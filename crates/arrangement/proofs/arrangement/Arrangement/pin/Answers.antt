@@ -3,15 +3,15 @@ use Rattle.edit_steps.specs.Edits.{Pin}
 use Rattle.arrangement.proofs.Edits.{edited, as_before}
 use Rattle.arrangement.proofs.arrangement.Arrangement.pin.Goals as goal
 
-pub walk_to-at-requires : goal.walk_to-at-requires
-walk_to-at-requires g c = c.self.invariant.1.0.map
+pub spot_at-at-requires : goal.spot_at-at-requires
+spot_at-at-requires g c = record { map = c.self.invariant.1.0.map; layer = c.self.invariant.0 }
 
 pub pin-requires : goal.pin-requires
 pin-requires g c = record {
   layer = c.self.invariant.0;
   map = c.self.invariant.1.0;
   watched = rw (← c.self.view_is) at c.requires.watched;
-  spot = c.walk_to-at.ensures;
+  spot = c.spot_at-at.ensures;
 }
 
 pub returns : goal.returns

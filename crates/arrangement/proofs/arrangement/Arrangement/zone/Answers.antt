@@ -1,7 +1,7 @@
 use Rattle.arrangement.proofs.arrangement.Arrangement.zone.Goals as goal
 
 pub zone_in-requires : goal.zone_in-requires
-zone_in-requires g c = record { map = c.self.invariant.1.0.map }
+zone_in-requires g c = record { map = c.self.invariant.1.0.map; layer = c.self.invariant.0 }
 
 pub returns : goal.returns
 returns g c =
