@@ -1,5 +1,5 @@
 -- What a caller sees of an arrangement: the layer that it is, its limits, its records by name, and its observers.
-use Rattle.std.specs.Prelude.{◌≤◌, All, Option}
+use Rattle.std.specs.Prelude.{All, Option}
 use Rattle.plane_graphs.specs.Graph.{graph}
 use Rattle.edit_steps.specs.Edits.{Edit}
 use Rattle.edit_steps.specs.Layer.{Layer}
@@ -17,7 +17,6 @@ use Rattle.observer_bus.specs.Seats.{Holds}
 use Rattle.told_steps.specs.ToldRuns.{seen}
 use Rattle.arrangement.specs.declared.arrangement.Arrangement.{Arrangement}
 use Rattle.arrangement.specs.declared.limits.Limits.{Limits}
-use Rattle.arrangement.specs.declared.limits.TheConstants.{MAX_CURVES, MAX_PIECES, MAX_PINS}
 
 pub record Arranged : Type 0 where
   pub graph : View
@@ -53,10 +52,3 @@ bounds_of l = record { curves = l.curves; pieces = l.pieces; pins = l.pins; last
 -- why an edit of the arrangement is refused (this project)
 abbrev pub refusal_in : Arranged → Edit → Option Refusal
 refusal_in a e = refusal (bounds_of a.limits) (layer_in a) e
-
--- none of the limits is above the full ones, and the first number is at least 1 (this project)
-pub record AreLimits (l : Limits) : Type 0 where
-  pub curves : l.curves ≤ MAX_CURVES
-  pub pieces : l.pieces ≤ MAX_PIECES
-  pub pins : l.pins ≤ MAX_PINS
-  pub first : 1 ≤ l.first

@@ -22,7 +22,7 @@ ghost use Rattle.arrangement.specs.declared.limits.TheConstants.{MAX_CURVES, MAX
 ghost use Rattle.curve_history.specs.declared.history.TheConstants.{LAST_CURVE};
 ghost use Rattle.observer_bus.specs.RoundLaws.{HaveNamesApart};
 ghost use Rattle.observer_bus.specs.Rows.{bus_row};
-ghost use Rattle.arrangement.specs.Arranged.{arranged, layer_in, subdivision_by, AreLimits, IsWatched, refusal_in};
+ghost use Rattle.arrangement.specs.Arranged.{arranged, layer_in, subdivision_by, IsWatched, refusal_in};
 ghost use Rattle.arrangement.specs.Edited.{IsEdited, IsAsBefore};
 ghost use Rattle.arrangement.specs.SpotCells.{HasSpot, cell_named};
 
@@ -85,14 +85,14 @@ fn empty_records(alloc: Global, first: u32) -> Result<LayerRecords, NoMemory>
 impl Arrangement {
     /// A layer of nothing, whose first curve gets the number `limits.first`, over a bus that has no observers yet.
     ///
-    /// At most 2,000 curves, 10,000 pieces and 10,000 pins can be asked for, and the last number that a curve can get is
-    /// 4,294,967,295, whatever the limits are.
+    /// A script's layer holds 2,000 curves, 10,000 pieces and 10,000 pins ([`Limits::FULL`]); others hold what their limits say, any number.
+    /// The last number that a curve can get is 4,294,967,295, whatever the limits are.
     ///
     /// # Errors
     ///
     /// There was no memory for the record of the unbounded face.
     pub fn new(alloc: Global, limits: Limits, bus: Bus) -> Result<Arrangement, NoMemory>
-        requires limits { AreLimits limits }
+        requires first { 1 ≤ limits.first }
         requires alone { (bus_row Observer-dyn bus).seats ≡ [] }
         ensures curves { MAX_CURVES ≡ 2000 }
         ensures pieces { MAX_PIECES ≡ 10000 }

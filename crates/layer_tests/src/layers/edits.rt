@@ -1,5 +1,5 @@
-ghost use Rattle.std.specs.Prelude.{IfOk};
-ghost use Rattle.arrangement.specs.Arranged.{arranged, AreLimits, IsWatched};
+ghost use Rattle.std.specs.Prelude.{◌≤◌, IfOk};
+ghost use Rattle.arrangement.specs.Arranged.{arranged, IsWatched};
 
 use crate::shapes::{Ends, point, segment};
 use arrangement::{
@@ -60,6 +60,8 @@ pub enum Under {
     LastNumber,
     /// Two curves, three pieces and two pins; there are two numbers left.
     TwoCurves,
+    /// One more of each than those of a script.
+    OneMore,
 }
 
 const LAST_NUMBER: Limits = Limits {
@@ -76,13 +78,21 @@ const TWO_CURVES: Limits = Limits {
     first: 4294967294,
 };
 
+const ONE_MORE: Limits = Limits {
+    curves: 2_001,
+    pieces: 10_001,
+    pins: 10_001,
+    first: 1,
+};
+
 fn limits_of(under: Under) -> Limits
-    ensures { AreLimits result }
+    ensures { 1 ≤ result.first }
 {
     match under {
         Under::Script => Limits::FULL,
         Under::LastNumber => LAST_NUMBER,
         Under::TwoCurves => TWO_CURVES,
+        Under::OneMore => ONE_MORE,
     }
 }
 

@@ -5,6 +5,7 @@ mod asked;
 mod calls;
 pub mod edits;
 mod kept;
+mod limits;
 mod looks;
 mod overlay_texts;
 mod overlays;
