@@ -1,0 +1,3 @@
+pub mod Areas
+pub mod Fractions
+pub mod Walks
