@@ -1,7 +1,7 @@
 -- Whole corners have the weight 1.
-use Rattle.std.proofs.Common.{◌≡◌, ℕ, zero, suc, ◌+◌, ◌<◌, List, length, ℤ, pos, ◌*ℤ◌, ap, ◌∙◌, arith}
+use Rattle.std.proofs.Common.{◌≡◌, ℕ, zero, suc, ◌<◌, List, length, pos, ◌*ℤ◌, ap, ◌∙◌, arith}
 use Rattle.exact_plane.specs.Point.{Point}
-use Rattle.region_rings.specs.Holes.{corner_in, place_after}
+use Rattle.region_rings.specs.Holes.{place_after}
 use Rattle.ring_areas.specs.Areas.{side_at, area, AreWhole}
 use Rattle.ring_areas.specs.Fractions.{Fraction, total}
 use Rattle.ring_areas.proofs.Totals.{total_none, total_suc}

@@ -1,4 +1,4 @@
-use Rattle.std.proofs.Common.{rules, ◌≡◌, ap, ◌∙◌}
+use Rattle.std.proofs.Common.{ap, ◌∙◌}
 use Rattle.ring_areas.specs.Fractions.{Fraction}
 use Rattle.ring_areas.proofs.Whole.{whole_area}
 use Rattle.ring_areas.proofs.rings.area_of.Goals as goal

@@ -1,4 +1,4 @@
-use Rattle.std.proofs.Common.{rules, ◌≡◌, ◌≤◌, length, ap, ◌∙◌, arith}
+use Rattle.std.proofs.Common.{rules}
 use Rattle.ring_areas.specs.Areas.{area_within}
 use Rattle.ring_areas.proofs.Totals.{sum_begin, within_step}
 use Rattle.ring_areas.proofs.rings.area_of_polygon.Goals as goal

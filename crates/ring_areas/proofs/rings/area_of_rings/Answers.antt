@@ -1,4 +1,4 @@
-use Rattle.std.proofs.Common.{rules, ◌≡◌, ◌≤◌, length, ap, ◌∙◌, arith}
+use Rattle.std.proofs.Common.{rules, ap, ◌∙◌}
 use Rattle.ring_areas.specs.Areas.{area, ring_area}
 use Rattle.ring_areas.proofs.Totals.{sum_begin, sum_step}
 use Rattle.ring_areas.proofs.rings.area_of_rings.Goals as goal

@@ -1,6 +1,5 @@
-use Rattle.std.proofs.Common.{rules, ◌≡◌, ◌≤◌, length, ap, ◌∙◌, arith}
+use Rattle.std.proofs.Common.{rules}
 use Rattle.ring_areas.specs.Areas.{side_at}
-use Rattle.ring_areas.specs.Fractions.{total}
 use Rattle.ring_areas.proofs.Totals.{sum_begin, sum_step}
 use Rattle.ring_areas.proofs.rings.twice_area.Goals as goal
 
