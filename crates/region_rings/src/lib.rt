@@ -47,8 +47,8 @@
 //!
 //! # What isn't
 //!
-//! That a ring which turns wide at its least corner is clockwise is the definition here, and isn't compared with an area. Nor is there
-//! an area: as a fraction it has a denominator that passes every fixed width.
+//! That a ring which turns wide at its least corner is clockwise is the definition here, and isn't compared with an area. Areas are
+//! told by `ring_areas`.
 //!
 //! # How
 //!

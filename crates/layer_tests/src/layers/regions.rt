@@ -3,9 +3,12 @@ ghost use Rattle.arrangement.specs.Arranged.{arranged, IsWatched};
 use crate::layers::edits::{Answer, Edit, Under, apply, at, layer_under};
 use crate::shapes::Ends;
 use arrangement::{Arrangement, Colour, Op, Region, RegionError, overlay, region_of};
+use big_integers::BigInt;
 use exact_plane::Point;
 use region_rings::{Rings, rings_of};
+use ring_areas::{Area, area_of_polygon, area_of_rings};
 use std::alloc::Global;
+use std::cmp::Ordering;
 use std::test::Fail;
 
 // Two squares, a corner of each in the other.
@@ -61,6 +64,8 @@ enum Wanted {
     Count(usize),
     /// These rings, by the one whole coordinate of their least corners, and of each hole that of its outer ring.
     Rings(&'static [(i128, Option<i128>)]),
+    /// These whole areas of polygons, each beside the number of its outer ring, and this one of the region.
+    Areas(&'static [(usize, i128)], i128),
     /// The layer isn't closed, and this is its least odd end.
     Open(Colour, i128, i128),
 }
@@ -136,6 +141,34 @@ fn has_rings(
     are_nested(&rings, wanted)
 }
 
+// Whether the area is this whole number.
+fn is_area(alloc: Global, area: &Area, wanted: i128) -> Result<bool, Fail> {
+    let times = BigInt::from_i128(alloc, wanted)?.mul(alloc, area.denominator())?;
+    Ok(times.cmp(area.numerator()) == Ordering::Equal)
+}
+
+fn is_polygon(alloc: Global, rings: &Rings, outer: usize, wanted: i128) -> Result<bool, Fail> {
+    if rings.len() <= outer {
+        return Ok(false);
+    }
+    is_area(alloc, &area_of_polygon(alloc, rings, outer)?, wanted)
+}
+
+fn has_areas(
+    alloc: Global,
+    region: &Region,
+    polygons: &[(usize, i128)],
+    wanted: i128,
+) -> Result<bool, Fail> {
+    let rings = rings_of(alloc, region)?;
+    'polygons: for (outer, area) in polygons.iter().copied() {
+        if !is_polygon(alloc, &rings, outer, area)? {
+            return Ok(false);
+        }
+    }
+    is_area(alloc, &area_of_rings(alloc, &rings)?, wanted)
+}
+
 // Whether the answer is the one that is wanted.
 fn is_wanted(
     alloc: Global,
@@ -146,6 +179,7 @@ fn is_wanted(
         (Ok(region), Wanted::Darts(darts)) => are_darts(region, darts),
         (Ok(region), Wanted::Count(count)) => Ok(region.darts().len() == count),
         (Ok(region), Wanted::Rings(rings)) => has_rings(alloc, region, rings),
+        (Ok(region), Wanted::Areas(polygons, area)) => has_areas(alloc, region, polygons, area),
         (Err(RegionError::Open(colour, end)), Wanted::Open(which, x, y)) => {
             Ok(*colour == which && *end == at(x, y)?)
         }
@@ -236,6 +270,26 @@ fn a_square_given_twice_makes_nothing(rt: HostRuntime) -> Result<(), Fail> {
 fn holes_are_told_their_outer_rings(rt: HostRuntime) -> Result<(), Fail> {
     let cases = [(Op::Union, Wanted::Rings(&OUTERS))];
     assert!(rt; are_made(rt.alloc(), &NESTED, &NOTHING, &cases)?);
+    Ok(())
+}
+
+// 64 - 36, and 16 - 4 within the hole.
+#[test]
+fn a_polygon_is_a_ring_without_its_holes(rt: HostRuntime) -> Result<(), Fail> {
+    let cases = [(Op::Union, Wanted::Areas(&[(0, 28), (2, 12)], 40))];
+    assert!(rt; are_made(rt.alloc(), &NESTED, &NOTHING, &cases)?);
+    Ok(())
+}
+
+#[test]
+fn areas_of_two_squares_add_up(rt: HostRuntime) -> Result<(), Fail> {
+    let cases = [
+        (Op::Intersection, Wanted::Areas(&[(0, 4)], 4)),
+        (Op::Union, Wanted::Areas(&[(0, 28)], 28)),
+        (Op::Difference, Wanted::Areas(&[(0, 12)], 12)),
+        (Op::Symmetric, Wanted::Areas(&[], 24)),
+    ];
+    assert!(rt; are_made(rt.alloc(), &RED, &BLUE, &cases)?);
     Ok(())
 }
 
