@@ -14,3 +14,4 @@ pub mod KnownEdges
 pub mod GraphRows
 pub mod EdgePieces
 pub mod Cuts
+pub mod OwnEdges

@@ -37,6 +37,7 @@ pub use join::overlay;
 pub use kinds::is_inner;
 pub use known::known_labels;
 pub use layers::labels_above;
+pub use own::OwnEdge;
 pub use pieces::piece_along;
 pub use roots::{cycle_ranks, roots_of};
 

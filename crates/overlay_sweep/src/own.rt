@@ -4,10 +4,19 @@ ghost use Rattle.exact_plane.specs.PointOrder.{point_cmp};
 ghost use Rattle.plane_graphs.specs.Ascending.{ascending, IsAscending, Member};
 ghost use Rattle.overlay_sweep.specs.OwnStretches.{piece_first, piece_cmp, counts_one, IsBegun, IsLastBegun, AreCountsUpto};
 
-use exact_plane::Point;
+use exact_plane::{Point, Span};
 use no_memory::NoMemory;
 use std::alloc::{AllocError, Global};
 use sweep_graphs::{EdgeEnds, Stretch};
+
+/// An edge of a layer, and the rank of the face above it.
+#[derive(Clone, Copy)]
+pub struct OwnEdge {
+    /// The edge with its line.
+    pub span: Span,
+    /// The rank of the face on its left, going from its lower to its upper end; 0 is the unbounded face.
+    pub over: usize,
+}
 
 // A stretch of a layer's piece, told by the piece first.
 #[derive(Clone, Copy, PartialEq, Eq, PartialOrd, Ord)]
