@@ -19,10 +19,10 @@ pub mod Cuts
 pub mod TracedEdges
 pub mod RowsAhead
 pub mod UnitedPieces
+pub mod OwnOrder
+pub mod OwnLines
 pub mod OwnSteps
-pub mod OwnStretches
 pub mod OwnEdges
-pub mod OwnCounts
 pub mod OwnAlong
 pub mod KnownEdges
 pub mod GraphRows

@@ -9,7 +9,6 @@ pub mod EdgeRows
 pub mod EdgeSpans
 pub mod LayerGraphs
 pub mod EdgeCurves
-pub mod OwnStretches
 pub mod KnownEdges
 pub mod GraphRows
 pub mod EdgePieces

@@ -1,4 +1,5 @@
 ghost use Rattle.std.specs.Prelude.{◌≡◌, map, IfOk};
+ghost use Rattle.std.specs.List.Sorted.{IsSorted};
 ghost use Rattle.plane_graphs.specs.Fit.{IsFit};
 ghost use Rattle.plane_graphs.specs.Piece.{Present as Pieces};
 ghost use Rattle.plane_graphs.specs.Plane.{IsPlane};
@@ -11,14 +12,16 @@ ghost use Rattle.slab_laws.specs.Subdivision.{subdivision};
 ghost use Rattle.overlay_laws.specs.United.{united};
 ghost use Rattle.overlay_sweep.specs.KnownLabels.{AreLabelled};
 ghost use Rattle.overlay_sweep.specs.LayerGraphs.{IsLayerGraph, ArePiecesFrom};
+ghost use Rattle.overlay_sweep.specs.OwnEdges.{begin_cmp, AreOwnEdges};
 ghost use Rattle.subdivision_rows.specs.Listed.{subdivision_in, view_of, faces_of, AreLinesOf};
 
 use crate::counted::{counted_by, graph_of_both};
 use crate::curves::curves_of_edges;
 use crate::faces::labels_of_faces;
-use crate::graphs::{LayerGraph, graph_of};
+use crate::graphs::LayerGraph;
 use crate::known::known_labels;
 use crate::layers::labels_above;
+use crate::own::{OwnEdge, sort_edges};
 use no_memory::NoMemory;
 use slab_laws::Present;
 use std::alloc::Global;
@@ -28,12 +31,13 @@ use subdivision_rows::{Both, LayerTable};
 fn labels_of_layer(
     alloc: Global,
     layer: &Present,
-    own: &LayerGraph,
+    own: &[OwnEdge],
     whole: &LayerGraph,
     first: usize,
 ) -> Result<Vec<usize>, NoMemory>
     requires fit { IsFit (present_of layer.now) }
-    requires own { IsLayerGraph (present_of layer.now) own.now }
+    requires own { AreOwnEdges (present_of layer.now) own.now }
+    requires sorted { IsSorted begin_cmp own.now }
     requires whole { (w : Pieces) × IsFit w × IsLayerGraph w whole.now × ArePiecesFrom first (present_of layer.now) w }
     ensures { (w : Pieces) → IsFit w → IsLayerGraph w whole.now → ArePiecesFrom first (present_of layer.now) w → AreLabelled (present_of layer.now) w
         → IfOk result (λ v. v.items ≡ map (label (present_of layer.now) (plane_of w)) (subdivision (plane_of w)).faces) }
@@ -63,12 +67,13 @@ fn labels_of_layer(
 fn table_of(
     alloc: Global,
     layer: &Present,
-    own: &LayerGraph,
+    own: &[OwnEdge],
     whole: &LayerGraph,
     first: usize,
 ) -> Result<LayerTable, NoMemory>
     requires fit { IsFit (present_of layer.now) }
-    requires own { IsLayerGraph (present_of layer.now) own.now }
+    requires own { AreOwnEdges (present_of layer.now) own.now }
+    requires sorted { IsSorted begin_cmp own.now }
     requires whole { (w : Pieces) × IsFit w × IsLayerGraph w whole.now × ArePiecesFrom first (present_of layer.now) w }
     ensures { (w : Pieces) → IsFit w → IsLayerGraph w whole.now → ArePiecesFrom first (present_of layer.now) w → AreLabelled (present_of layer.now) w
         → IfOk result (λ t. t ≡ layer_rows (present_of layer.now) (subdivision (plane_of w))) }
@@ -78,19 +83,22 @@ fn table_of(
     Ok(LayerTable::of(curves, labels))
 }
 
-// The same, with the layer's own graph made for it.
-fn table_by_sweep(
+// The same, with the layer's own edges brought into their order.
+fn table_by_edges(
     alloc: Global,
     layer: &Present,
+    edges: Vec<OwnEdge>,
     whole: &LayerGraph,
     first: usize,
 ) -> Result<LayerTable, NoMemory>
     requires fit { IsFit (present_of layer.now) }
+    requires own { AreOwnEdges (present_of layer.now) edges.items }
     requires whole { (w : Pieces) × IsFit w × IsLayerGraph w whole.now × ArePiecesFrom first (present_of layer.now) w }
     ensures { (w : Pieces) → IsFit w → IsLayerGraph w whole.now → ArePiecesFrom first (present_of layer.now) w → AreLabelled (present_of layer.now) w
         → IfOk result (λ t. t ≡ layer_rows (present_of layer.now) (subdivision (plane_of w))) }
 {
-    let own = graph_of(alloc, layer)?;
+    let mut own = edges;
+    sort_edges(&mut own);
     let table = table_of(alloc, layer, &own, whole, first);
     // By a call, which is proved once for the type; what a scope drops at its end is proved there anew.
     drop(own);
@@ -102,31 +110,44 @@ fn tables_of(
     alloc: Global,
     red: &Present,
     blue: &Present,
+    red_edges: Vec<OwnEdge>,
+    blue_edges: Vec<OwnEdge>,
     whole: &LayerGraph,
 ) -> Result<(LayerTable, LayerTable), NoMemory>
     requires red { IsFit (present_of red.now) }
     requires blue { IsFit (present_of blue.now) }
+    requires red_edges { AreOwnEdges (present_of red.now) red_edges.items }
+    requires blue_edges { AreOwnEdges (present_of blue.now) blue_edges.items }
     requires whole { IsLayerGraph (united (present_of red.now) (present_of blue.now)) whole.now }
     ensures red { IfOk result (λ t. t.0 ≡ layer_rows (present_of red.now) (overlay (present_of red.now) (present_of blue.now))) }
     ensures blue { IfOk result (λ t. t.1 ≡ layer_rows (present_of blue.now) (overlay (present_of red.now) (present_of blue.now))) }
 {
-    let of_red = table_by_sweep(alloc, red, whole, 0)?;
-    let of_blue = table_by_sweep(alloc, blue, whole, red.pieces.as_slice().len())?;
+    let of_red = table_by_edges(alloc, red, red_edges, whole, 0)?;
+    let of_blue = table_by_edges(alloc, blue, blue_edges, whole, red.pieces.as_slice().len())?;
     Ok((of_red, of_blue))
 }
 
 /// The overlay of two layers: the subdivision of the plane by the pieces and pins of both, of each of its edges the red and
 /// the blue curves along it, and of each of its faces the red face and the blue face that hold it (CGAL manual, `overlay`).
 ///
-/// Three plane sweeps, of each layer and of both, and passes over what they leave: n log n steps in all (Fogel, Halperin and Wein: an
-/// overlay by one sweep over the curves of both).
+/// The layers hand in their edges, in any order, with the ranks of their faces, so that there is one plane sweep, of both layers
+/// together, and passes over what it leaves: n log n steps in all (Fogel, Halperin and Wein: an overlay by one sweep over the curves of
+/// both).
 ///
 /// # Errors
 ///
 /// There was no memory for the overlay or for a table on the way; for more than 2^32 pieces there is none.
-pub fn overlay(alloc: Global, red: &Present, blue: &Present) -> Result<Both, NoMemory>
+pub fn overlay(
+    alloc: Global,
+    red: &Present,
+    blue: &Present,
+    red_edges: Vec<OwnEdge>,
+    blue_edges: Vec<OwnEdge>,
+) -> Result<Both, NoMemory>
     requires red { IsFit (present_of red.now) }
     requires blue { IsFit (present_of blue.now) }
+    requires red_edges { AreOwnEdges (present_of red.now) red_edges.items }
+    requires blue_edges { AreOwnEdges (present_of blue.now) blue_edges.items }
     ensures subdivision { IfOk result (λ b.
         subdivision_in b.drawing ≡ overlay (present_of red.now) (present_of blue.now)) }
     ensures pins { IfOk result (λ b. b.drawing.graph.pins ≡ (both (present_of red.now) (present_of blue.now)).pins) }
@@ -143,7 +164,7 @@ pub fn overlay(alloc: Global, red: &Present, blue: &Present) -> Result<Both, NoM
     ensures stands { IfOk result (λ b. IsSound (view_of b.drawing) (faces_of b.drawing)) }
 {
     let (united, whole) = graph_of_both(alloc, red, blue)?;
-    let (of_red, of_blue) = tables_of(alloc, red, blue, &whole)?;
+    let (of_red, of_blue) = tables_of(alloc, red, blue, red_edges, blue_edges, &whole)?;
     let counted = counted_by(alloc, red, blue, united, whole)?;
     counted.rows.laws();
     Ok(Both::of(

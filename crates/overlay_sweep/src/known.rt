@@ -1,20 +1,21 @@
-ghost use Rattle.std.specs.Prelude.{◌≡◌, ◌<◌, ℕ, true, false, map, slice_index_or, Some, Contains, IfOk};
-ghost use Rattle.std.specs.List.Sorted.{IsPartitionPoint};
+ghost use Rattle.std.specs.Prelude.{◌≡◌, ◌≢◌, ◌<◌, true, false, length, None, IfOk};
+ghost use Rattle.std.specs.List.Sorted.{IsPartitionPoint, IsSorted};
 ghost use Rattle.std.specs.Ordering.{is_lt};
-ghost use Rattle.plane_graphs.specs.Ascending.{ascending, IsAscending};
+ghost use Rattle.plane_graphs.specs.Ascending.{IsAscending};
 ghost use Rattle.plane_graphs.specs.Fit.{IsFit};
+ghost use Rattle.plane_graphs.specs.Line.{same_point};
 ghost use Rattle.slab_laws.specs.Pieces.{present_of};
-ghost use Rattle.slab_laws.specs.SpansDrawn.{drawn};
-ghost use Rattle.sweep_graphs.specs.Edges.{stretch_cmp, edge_between};
+ghost use Rattle.sweep_graphs.specs.Edges.{stretch_cmp};
 ghost use Rattle.overlay_sweep.specs.Cuts.{StandsWith, IsCutAt};
-ghost use Rattle.overlay_sweep.specs.KnownEdges.{rank_over, IsPlaceOfOwn, IsOwnAlong, IsRankOn};
+ghost use Rattle.overlay_sweep.specs.KnownEdges.{IsPlaceOfOwn, IsOwnAlong};
 ghost use Rattle.overlay_sweep.specs.KnownLabels.{AreKnown};
 ghost use Rattle.overlay_sweep.specs.LayerGraphs.{IsLayerGraph, ArePiecesFrom};
-ghost use Rattle.overlay_sweep.specs.OwnStretches.{piece_first, piece_cmp, ends_of_own, IsBegun};
+ghost use Rattle.overlay_sweep.specs.OwnEdges.{begin_cmp, own_at, passed_at, passing_with, AreOwnEdges, HasOwnFrom, IsOwnFrom, IsTold};
 
-use crate::bare::rank_above;
 use crate::graphs::LayerGraph;
-use crate::own::{PieceStretch, counts_upto, last_begun, stretches_by_pieces};
+use crate::own::{OwnEdge, laws_of_own, place_from};
+use crate::rows::laws_of_spans;
+use exact_plane::Span;
 use no_memory::NoMemory;
 use slab_laws::Present;
 use std::alloc::Global;
@@ -112,65 +113,81 @@ fn own_along(
     place_of_own(stretch, edge, first, count)
 }
 
-fn edge_of_own(stretch: &PieceStretch) -> EdgeEnds
-    ensures { result ≡ ends_of_own stretch.now }
+// The place of the own edge that a part of it lies on, which begins at the vertex: that of the edge which passes the vertex, as is noted,
+// or else of the one that begins there.
+fn own_place(own: &[OwnEdge], passing: &[Option<usize>], vertex: usize, part: &Span) -> usize
+    requires sorted { IsSorted begin_cmp own.now }
+    requires some { HasOwnFrom own.now (passed_at passing.now vertex) part.now }
+    ensures within { result < length own.now }
+    ensures from { IsOwnFrom own.now (passed_at passing.now vertex) part.now result }
 {
-    EdgeEnds {
-        low: stretch.low,
-        high: stretch.high,
+    match passing.get(vertex) {
+        Some(Some(place)) => *place,
+        _ => place_from(own, part),
     }
 }
 
-// The rank of the face above a layer's edge.
-fn rank_on(own: &LayerGraph, edge: &EdgeEnds) -> usize
-    requires own { (p : _) × IsFit p × IsLayerGraph p own.now }
-    requires edge { Contains (drawn own.now.trace.points own.now.spans.items).edges (edge_between own.now.trace.points edge.now) }
-    ensures { result ≡ rank_over own.now edge.now }
+fn ends_with(own: &[OwnEdge], place: usize, part: &Span) -> bool
+    requires { place < length own.now }
+    ensures { result ≡ same_point (own_at own.now place).span.upper part.now.upper }
 {
-    rank_above(
-        own.trace.points.as_slice(),
-        &own.spans,
-        &own.orbits,
-        &own.ranks,
-        edge,
-    )
+    own[place].span.upper() == part.upper()
 }
 
-// The rank of the face above the last of the layer's stretches of a piece that begins before the vertex at the bound.
-fn rank_from(
-    own: &LayerGraph,
-    stretches: &[PieceStretch],
+// Notes the vertex at which a part of an own edge ends, unless the edge ends there, too.
+fn note_passing(
+    own: &[OwnEdge],
+    passing: &mut Vec<Option<usize>>,
+    vertex: usize,
+    part: &Span,
+    place: usize,
+)
+    requires vertex { vertex < length passing.old.items }
+    requires place { place < length own.now }
+    ensures { passing.new.items ≡ passing_with own.now passing.old.items vertex part.now place }
+{
+    if ends_with(own, place, part) {
+        return;
+    }
+    passing[vertex] = Some(place);
+}
+
+fn over_at(own: &[OwnEdge], place: usize) -> usize
+    requires { place < length own.now }
+    ensures { result ≡ (own_at own.now place).over }
+{
+    own[place].over
+}
+
+// The rank of the face above the own edge that a part of it lies on; none, where no piece of the layer runs along the part.
+fn label_along(
+    own: &[OwnEdge],
+    passing: &mut Vec<Option<usize>>,
+    edge: &EdgeEnds,
+    part: &Span,
     piece: Option<usize>,
-    bound: usize,
 ) -> Option<usize>
-    requires own { (p : _) × IsFit p × IsLayerGraph p own.now }
-    requires stretches { stretches.now ≡ ascending piece_cmp (map piece_first own.now.trace.stretches) }
-    requires some { (i : ℕ) → piece ≡ Some i → (t : _) × IsBegun stretches.now i bound t }
-    ensures { IsRankOn own.now stretches.now bound piece result }
+    requires sorted { IsSorted begin_cmp own.now }
+    requires high { edge.now.high < length passing.old.items }
+    requires some { piece ≢ None → HasOwnFrom own.now (passed_at passing.old.items edge.now.low) part.now }
+    ensures { IsTold own.now passing.old.items passing.new.items edge.now.low edge.now.high part.now piece result }
 {
     match piece {
-        Some(piece) => {
-            let stretch = last_begun(stretches, piece, bound);
-            Some(rank_on(own, &edge_of_own(&stretch)))
+        Some(_) => {
+            let place = own_place(own, passing, edge.low, part);
+            note_passing(own, passing, edge.high, part, place);
+            Some(over_at(own, place))
         }
         None => None,
-    }
-}
-
-fn count_at(counts: &[usize], vertex: usize) -> usize
-    ensures { result ≡ slice_index_or counts.now vertex 0 }
-{
-    match counts.get(vertex) {
-        Some(count) => *count,
-        None => 0,
     }
 }
 
 /// Of each edge of the whole that has a curve of the layer the rank of the face above the layer's own edge that it lies on (Fogel,
 /// Halperin and Wein: an edge of the overlay lies on an edge of each layer whose curve it has); of any other edge, none.
 ///
-/// Both graphs are those of `graph_of`, that of the layer's pieces and that of a present that has these from the place `first` on.
-/// It goes through the edges and their stretches in step; two searches for each edge at most, none of them by points.
+/// The layer's own edges stand in the order in which they begin. The graph is that of `graph_of` for a present that has the layer's
+/// pieces from the place `first` on. It goes through the edges and their stretches in step: an own edge is searched where it begins, and
+/// then followed from vertex to vertex.
 ///
 /// # Errors
 ///
@@ -178,27 +195,27 @@ fn count_at(counts: &[usize], vertex: usize) -> usize
 pub fn known_labels(
     alloc: Global,
     layer: &Present,
-    own: &LayerGraph,
+    own: &[OwnEdge],
     whole: &LayerGraph,
     first: usize,
 ) -> Result<Vec<Option<usize>>, NoMemory>
     requires fit { IsFit (present_of layer.now) }
-    requires own { IsLayerGraph (present_of layer.now) own.now }
+    requires own { AreOwnEdges (present_of layer.now) own.now }
+    requires sorted { IsSorted begin_cmp own.now }
     requires whole { (w : _) × IsFit w × IsLayerGraph w whole.now × ArePiecesFrom first (present_of layer.now) w }
     ensures { (w : _) → IsFit w → IsLayerGraph w whole.now → ArePiecesFrom first (present_of layer.now) w → IfOk result (λ v. AreKnown (present_of layer.now) w v.items) }
 {
-    let stretches = stretches_by_pieces(alloc, own.trace.stretches.as_slice())?;
-    let counts = counts_upto(
-        alloc,
-        own.trace.points.as_slice(),
-        whole.trace.points.as_slice(),
-    )?;
+    laws_of_own(own);
+    laws_of_spans(&whole.spans);
     let count = layer.pieces.as_slice().len();
     let mut known = Vec::with_capacity(alloc, whole.edges.len())?;
+    let mut passing = Vec::new(alloc);
+    passing.resize(whole.trace.points.as_slice().len(), None)?;
     let mut place = 0;
-    for edge in &whole.edges {
+    for (index, edge) in whole.edges.iter().enumerate() {
         let piece = own_along(&whole.stretches, edge, first, count, &mut place);
-        known.push(rank_from(own, &stretches, piece, count_at(&counts, edge.low)))?;
+        let part = &whole.spans[index];
+        known.push(label_along(own, &mut passing, edge, part, piece))?;
     }
     Ok(known)
 }

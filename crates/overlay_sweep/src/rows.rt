@@ -35,7 +35,7 @@ struct More {
 }
 
 // What is true of all spans, of each of these.
-fn laws_of_spans(spans: &[Span])
+pub(crate) fn laws_of_spans(spans: &[Span])
     ensures { AreSpans spans.now }
 {
     for span in spans {

@@ -12,14 +12,14 @@ use Rattle.overlay_sweep.proofs.Joined.{red_labelled, blue_labelled}
 use Rattle.overlay_sweep.proofs.UnitedPieces.{red_pieces, blue_pieces}
 use Rattle.overlay_sweep.proofs.join.tables_of.Goals as goal
 
-pub table_by_sweep-requires-clause-whole : goal.table_by_sweep-requires-clause-whole
-table_by_sweep-requires-clause-whole c =
+pub table_by_edges-requires-clause-whole : goal.table_by_edges-requires-clause-whole
+table_by_edges-requires-clause-whole c =
     let red = present_of c.args.red.now in
     let blue = present_of c.args.blue.now in
     (united red blue, united_fit red blue c.requires.red c.requires.blue, c.requires.whole, red_pieces red blue)
 
-pub table_by_sweep-requires-2-clause-whole : goal.table_by_sweep-requires-2-clause-whole
-table_by_sweep-requires-2-clause-whole c =
+pub table_by_edges-requires-2-clause-whole : goal.table_by_edges-requires-2-clause-whole
+table_by_edges-requires-2-clause-whole c =
     let red = present_of c.args.red.now in
     let blue = present_of c.args.blue.now in (
       united red blue,
