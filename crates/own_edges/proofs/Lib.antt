@@ -1,0 +1,4 @@
+pub mod KeysPushed
+pub mod RanksWritten
+pub mod RanksFound
+pub mod EdgesOwned

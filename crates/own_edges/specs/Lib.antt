@@ -1,0 +1,2 @@
+pub mod RankTables
+pub mod OwnDarts
