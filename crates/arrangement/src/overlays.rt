@@ -10,11 +10,11 @@ ghost use Rattle.arrangement.specs.Overlays.{text_of, overlay_of};
 
 use crate::arrangement::Arrangement;
 use crate::overlaid::Overlay;
-use crate::presents::present_of;
+use crate::presents::{edges_of, present_of};
 use no_memory::NoMemory;
 use std::alloc::Global;
 
-/// The overlay of two layers, by plane sweeps over what each has at this moment.
+/// The overlay of two layers, by plane sweeps over what both have at this moment; the faces of each are those of its own records.
 ///
 /// # Errors
 ///
@@ -39,7 +39,9 @@ pub fn overlay(alloc: Global, red: &Arrangement, blue: &Arrangement) -> Result<O
 {
     let of_red = present_of(alloc, &red.layer)?;
     let of_blue = present_of(alloc, &blue.layer)?;
-    let both = overlay_sweep::overlay(alloc, &of_red, &of_blue);
+    let red_edges = edges_of(alloc, &red.layer)?;
+    let blue_edges = edges_of(alloc, &blue.layer)?;
+    let both = overlay_sweep::overlay(alloc, &of_red, &of_blue, red_edges, blue_edges);
     // What a scope drops at its end is proved there anew, in all its parts.
     drop(of_red);
     drop(of_blue);

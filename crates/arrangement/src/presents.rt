@@ -5,12 +5,15 @@ ghost use Rattle.slab_laws.specs.Sound.{IsGraphSound};
 ghost use Rattle.told_steps.specs.RecordLayers.{layer_of};
 ghost use Rattle.record_orders.specs.Keys.{vertex_keys};
 ghost use Rattle.subdivision_rows.specs.ByName.{points_at, pinned_among};
+ghost use Rattle.overlay_sweep.specs.OwnEdges.{AreOwnEdges};
 
 use crate::layer_records::LayerRecords;
 use curve_history::History;
 use dcel_records::Records;
 use exact_plane::Point;
 use no_memory::NoMemory;
+use overlay_sweep::OwnEdge;
+use own_edges::own_edges;
 use record_orders::{VertexKey, vertices_in_order};
 use slab_laws::{Darts, Piece, Present, Sequence};
 use std::alloc::Global;
@@ -69,4 +72,16 @@ pub(crate) fn present_of(alloc: Global, layer: &LayerRecords) -> Result<Present,
     let pieces = pieces_of(alloc, &layer.history)?;
     let pins = pins_in_order(alloc, &layer.records)?;
     Ok(Present { pieces, pins })
+}
+
+/// The edges of a layer, each with the rank of the face above it: the rank that it was given, where one was asked for twice since the last
+/// edit, and else its place among the outer cycles, which are sorted.
+///
+/// # Errors
+///
+/// There was no memory for the list or for a table on the way.
+pub(crate) fn edges_of(alloc: Global, layer: &LayerRecords) -> Result<Vec<OwnEdge>, NoMemory>
+    ensures { IfOk result (λ v. AreOwnEdges (layer_of layer.now.graph layer.now.past).present v.items) }
+{
+    own_edges(alloc, &layer.records, layer.findings.ranking)
 }

@@ -1,14 +1,20 @@
-use Rattle.std.proofs.Common.{ap₂, ◌∙◌}
+use Rattle.std.proofs.Common.{ap₂, ◌∙◌, sym, subst}
 use Rattle.plane_graphs.specs.Piece.{Present}
 use Rattle.slab_laws.specs.Layers.{rows_of}
 use Rattle.slab_laws.specs.Overlay.{both, overlay}
 use Rattle.slab_laws.specs.Pieces.{present_of}
+use Rattle.overlay_sweep.specs.OwnEdges.{AreOwnEdges}
 use Rattle.polygon_sets.proofs.RegionLayers.{counts_told}
 use Rattle.arrangement.proofs.OverlayRows.{told}
 use Rattle.arrangement.proofs.overlays.overlay.Goals as goal
 
 pub overlay-both-requires : goal.overlay-both-requires
-overlay-both-requires g c = record { red = c.in_ok-of_red.ensures.fit; blue = c.in_ok-of_blue.ensures.fit }
+overlay-both-requires g c = record {
+  red = c.in_ok-of_red.ensures.fit;
+  blue = c.in_ok-of_blue.ensures.fit;
+  red_edges = subst (λ (p : Present). AreOwnEdges p c.in_ok-red_edges.red_edges.items) (sym c.in_ok-of_red.ensures.present) c.in_ok-red_edges.ensures;
+  blue_edges = subst (λ (p : Present). AreOwnEdges p c.in_ok-blue_edges.blue_edges.items) (sym c.in_ok-of_blue.ensures.present) c.in_ok-blue_edges.ensures;
+}
 
 pub invariant_of-result : goal.invariant_of-result
 invariant_of-result g c = c.in_ok-both.ensures.stands
