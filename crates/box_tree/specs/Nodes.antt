@@ -1,5 +1,5 @@
 -- What a tree is seen as, and what holds at its root.
-use Rattle.std.specs.Prelude.{ℕ, suc, max, List, [], ◌∷◌, ◌++◌}
+use Rattle.std.specs.Prelude.{ℕ, Bool, true, false, Option, Some, None, suc, max, ◌+◌, ◌≤◌, List, [], ◌∷◌, ◌++◌}
 use Rattle.box_tree.specs.declared.entry.Entry.{Entry}
 use Rattle.box_tree.specs.declared.tree.Link.{Link}
 use Rattle.box_tree.specs.declared.tree.Link.TheVariants.{Empty, Node}
@@ -23,3 +23,13 @@ grown l = record { entries = entries l; height = height l }
 abbrev pub IsCovered : Link → Type 0
 IsCovered Empty = Unit {0}
 IsCovered (Node n) = AllWithin n.value.cover (n.value.entry ∷ n.value.low.entries ++ n.value.high.entries)
+
+-- it is no higher than there are levels from its fork on
+abbrev pub IsLow : Link → Type 0
+IsLow Empty = Unit {0}
+IsLow (Node n) = suc (max n.value.low.height n.value.high.height) + n.value.fork ≤ 96
+
+-- what is handed back where not all found a place
+abbrev pub left_over : Bool → Entry → Option Entry
+left_over true e = None
+left_over false e = Some e

@@ -15,9 +15,9 @@ use std::marker::Model;
 /// Entries by their boxes, and memory in reserve for entries to come: it is seen as its entries, in some order, and as the number of those for
 /// which there is memory. An entry may be in it several times.
 ///
-/// At each node of its tree stands one entry, and the tree is at most 96 nodes high. Where names differ and the coordinates are below 2^24 in
-/// absolute value, each entry finds a place there; what would have to go deeper, such as one entry many times, stands in a list beside the tree, at which each question
-/// looks whole.
+/// At each node of its tree stands one entry, and the tree is at most 96 nodes high. Where names below 2^43 differ, the coordinates are below 2^24 in
+/// absolute value and nothing was replaced, each entry finds a place there; what would have to go deeper, such as one entry many times, stands in
+/// a list beside the tree, at which each question looks whole.
 #[derive(Drop)]
 pub struct BoxTree {
     root: Tree,
@@ -95,7 +95,7 @@ impl BoxTree {
         ensures entries { IsRemoved entry.now self.old.entries self.new.entries result }
         ensures room { self.new.room ≡ self.old.room }
     {
-        if self.root.remove(entry, 0) {
+        if self.root.remove(entry) {
             return true;
         }
         take_out(&mut self.deepest, entry)
@@ -106,7 +106,7 @@ impl BoxTree {
         ensures entries { IsReplaced old.now new self.old.entries self.new.entries result }
         ensures room { self.new.room ≡ self.old.room }
     {
-        if self.root.replace(old, new, 0) {
+        if self.root.replace(old, new) {
             return true;
         }
         if !take_out(&mut self.deepest, old) {

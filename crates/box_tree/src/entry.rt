@@ -28,20 +28,45 @@ impl Entry {
         wide.max(tall)
     }
 
-    // The side on which it goes down from a node at this level: by the bits of the middle, x and y by turns, then by
+    // The side on which it goes down from a fork at this level: by the bits of the middle, x and y by turns, then by
     // those of the name, the lowest first.
     pub(crate) fn is_high(&self, level: u32) -> bool {
         let turn = level / 2;
         if turn < BITS {
             let sum = if level % 2 == 0 {
-                self.bounds.least.x.wrapping_add(self.bounds.greatest.x)
+                self.sum_x()
             } else {
-                self.bounds.least.y.wrapping_add(self.bounds.greatest.y)
+                self.sum_y()
             };
-            let place = sum.cast_unsigned().wrapping_add(1 << (BITS - 1));
-            place >> (BITS - 1 - turn) & 1 == 1
+            sum >> (BITS - 1 - turn) & 1 == 1
         } else {
-            self.name >> (level - 2 * BITS) % 32 & 1 == 1
+            self.name >> (level - 2 * BITS) % 64 & 1 == 1
         }
     }
+
+    // The first level at which it and another one go down on different sides. Where there is none, it is past all levels.
+    pub(crate) fn parting(&self, other: &Entry) -> u32 {
+        let x = first_bit(self.sum_x() ^ other.sum_x());
+        let y = first_bit(self.sum_y() ^ other.sum_y());
+        if x.min(y) >= BITS {
+            return 2 * BITS + (self.name ^ other.name).trailing_zeros();
+        }
+        if x <= y { 2 * x } else { 2 * y + 1 }
+    }
+
+    // Twice the abscissa of its middle, from 0 on.
+    fn sum_x(&self) -> u32 {
+        let sum = self.bounds.least.x.wrapping_add(self.bounds.greatest.x);
+        sum.cast_unsigned().wrapping_add(1 << (BITS - 1))
+    }
+
+    fn sum_y(&self) -> u32 {
+        let sum = self.bounds.least.y.wrapping_add(self.bounds.greatest.y);
+        sum.cast_unsigned().wrapping_add(1 << (BITS - 1))
+    }
+}
+
+// The first of the bits that tell places apart which is set, from the highest on. Where none is, it is past all of them.
+fn first_bit(bits: u32) -> u32 {
+    (bits << (u32::BITS - BITS)).leading_zeros()
 }

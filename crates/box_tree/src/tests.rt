@@ -153,3 +153,51 @@ fn one_entry_may_be_in_it_many_times(rt: HostRuntime) -> Result<(), Fail> {
     assert_eq!(rt; shown_in(&tree, (2, 2, 2, 2)), (1, 7));
     Ok(())
 }
+
+// Their names alone tell them apart.
+#[test]
+fn entries_of_one_box_are_told_apart(rt: HostRuntime) -> Result<(), Fail> {
+    let mut tree = tree_of(rt.alloc(), &[(1, 1, 2, 2); 5])?;
+    assert_eq!(rt; shown_in(&tree, (2, 2, 2, 2)), (5, 31));
+    for (name, left) in [(4, 27), (1, 26), (16, 10), (8, 2), (2, 0)] {
+        let entry = Entry {
+            name,
+            bounds: box_of((1, 1, 2, 2)),
+        };
+        assert!(rt; tree.remove(&entry));
+        assert!(rt; !tree.remove(&entry));
+        assert_eq!(rt; shown_in(&tree, (2, 2, 2, 2)).1, left);
+    }
+    Ok(())
+}
+
+// Three boxes side by side, and then one that goes another way at the first level: a fork comes above the three, through which they are
+// found and removed. One of the three is moved across that fork, and removed from there.
+#[test]
+fn a_far_entry_forks_above_all(rt: HostRuntime) -> Result<(), Fail> {
+    let far = (-9_000_000, 8_000_000, -8_999_999, 8_000_001);
+    let mut tree = tree_of(rt.alloc(), &[(0, 0, 1, 1), (2, 0, 3, 1), (0, 2, 1, 3), far])?;
+    assert_eq!(rt; shown_in(&tree, (0, 0, 9, 9)), (3, 7));
+    assert_eq!(rt; shown_in(&tree, far), (1, 8));
+    let second = Entry {
+        name: 2,
+        bounds: box_of((2, 0, 3, 1)),
+    };
+    assert!(rt; tree.remove(&second));
+    assert!(rt; !tree.remove(&second));
+    assert_eq!(rt; shown_in(&tree, (0, 0, 9, 9)), (2, 5));
+    let third = Entry {
+        name: 4,
+        bounds: box_of((0, 2, 1, 3)),
+    };
+    let moved = Entry {
+        name: 4,
+        bounds: box_of(far),
+    };
+    assert!(rt; tree.replace(&third, moved));
+    assert_eq!(rt; shown_in(&tree, (0, 0, 9, 9)), (1, 1));
+    assert_eq!(rt; shown_in(&tree, far), (2, 12));
+    assert!(rt; tree.remove(&moved));
+    assert_eq!(rt; shown_in(&tree, far), (1, 8));
+    Ok(())
+}

@@ -1,9 +1,12 @@
-// A tree of entries, each node with a box that covers the boxes of all entries in it. The larger entries stand higher, so
-// that deep boxes are small. Only that a node's box covers its entries is relied on: a question passes over a node whose
-// box it does not meet. Where an entry goes down tells of time alone, and a removal that does not find it there looks at the other side.
-ghost use Rattle.std.specs.Prelude.{◌≡◌, ◌+◌, ◌≤◌, ◌<◌, ◌≤ℤ◌, true, false, [], ◌∷◌, ◌++◌, negsuc, vec_len, vec_capacity, length};
+// A tree of entries, one at each node, each node with a box that covers the boxes of all entries in it. A node's two sides are told apart at
+// one level, its fork; levels at which all that is in it goes one way are passed over (Morrison: PATRICIA), and an entry that would go another way
+// at one of these gets a fork above the node. Of two entries that meet at a node the larger one stays, so that deep boxes are mostly small. Only
+// that a node's box covers its entries is relied on: a question passes over a node whose box it does not meet. Where an entry goes down tells
+// of time alone, and a removal that does not find it there looks at the other side.
+ghost use Rattle.std.specs.Prelude.{◌≡◌, ◌+◌, ◌≤◌, ◌<◌, ◌≤ℤ◌, max, true, false, [], ◌∷◌, ◌++◌, negsuc, vec_len, vec_capacity, length};
 ghost use Rattle.std.specs.List.Sorted.{IsPermutation};
 ghost use Rattle.exact_plane.specs.Boxes.{IsWithin};
+ghost use Rattle.box_tree.specs.Nodes.{left_over};
 ghost use Rattle.box_tree.specs.Entries.{names_meeting, is_met, AllAbove, AllWithin, AreKnown, AreSeen, IsPlaced, IsPopped, IsRemoved, IsReplaced, IsEither, is_empty_list};
 
 use crate::entry::Entry;
@@ -11,8 +14,10 @@ use crate::single::{is_below_floor, note, show};
 use crate::visitor::Visitor;
 use exact_plane::{BoundingBox, WholeParts};
 use std::marker::Model;
+use std::mem::{replace, swap};
 
-// The nodes on the longest way down, at most. Where names differ, no entry goes down further than by the bits of its middle and its name.
+// The nodes on the longest way down, at most: each fork is at a later level than those above it. Where names differ, no entry goes down further than
+// by the bits of its middle and its name.
 const LEVELS: u32 = 96;
 
 #[cycle(tree)]
@@ -33,6 +38,8 @@ enum Link {
 pub struct Node {
     entry: Entry,
     cover: BoundingBox,
+    // The level at which its sides are told apart. It says nothing where both are empty.
+    fork: u32,
     low: Tree,
     high: Tree,
 }
@@ -42,11 +49,11 @@ impl Model for Tree {
 
     ghost Value = { Grown };
 
-    ghost use Rattle.box_tree.specs.Nodes.{grown, IsCovered};
+    ghost use Rattle.box_tree.specs.Nodes.{grown, IsCovered, IsLow};
 
     ghost view = { λ a. grown a.link };
 
-    ghost invariant = { λ a. IsCovered a.link };
+    ghost invariant = { λ a. IsCovered a.link × IsLow a.link };
 
     ghost size = { λ g. g.height };
 
@@ -66,8 +73,29 @@ impl Node {
         Node {
             entry: Entry { name: 0, bounds },
             cover: bounds,
+            fork: 0,
             low: Tree::new(),
             high: Tree::new(),
+        }
+    }
+
+    fn is_leaf(&self) -> bool
+        ensures { result ≡ true → max self.now.low.height self.now.high.height ≡ 0 }
+    {
+        self.low.is_empty() && self.high.is_empty()
+    }
+
+    // The level of its fork once an entry that parts from its own at `parting` has come down from `level`.
+    fn forked(&self, parting: u32, level: u32) -> u32
+        requires fork { max self.now.low.height self.now.high.height + self.now.fork < 96 }
+        requires level { max self.now.low.height self.now.high.height + level < 96 }
+        ensures from { level ≤ result }
+        ensures room { max self.now.low.height self.now.high.height + result < 96 }
+    {
+        if self.is_leaf() {
+            parting.max(level).min(LEVELS - 1)
+        } else {
+            self.fork.max(level)
         }
     }
 }
@@ -119,7 +147,8 @@ impl Tree {
     }
 
     fn is_empty(&self) -> bool
-        ensures { result ≡ is_empty_list self.now.entries }
+        ensures entries { result ≡ is_empty_list self.now.entries }
+        ensures height { result ≡ true → self.now.height ≡ 0 }
     {
         match &self.link {
             Link::Empty => true,
@@ -128,36 +157,80 @@ impl Tree {
     }
 
     // Takes the entry in, with a node for it. Where it would make the tree too high, the entry that finds no place is handed back.
-    pub fn place(&mut self, mut spare: Box<Node>, entry: Entry, level: u32) -> Option<Entry>
+    pub fn place(&mut self, spare: Box<Node>, entry: Entry, level: u32) -> Option<Entry>
         requires { self.old.height + level ≤ 96 }
         ensures entries { IsPlaced entry self.old.entries self.new.entries result }
         ensures height { self.new.height + level ≤ 96 }
     {
+        let mut lower = entry;
+        if self.sink(spare, &mut lower, level) {
+            return None;
+        }
+        Some(lower)
+    }
+
+    // The same, and whether it found a place for all; else the entry that finds none is left in `entry`, which a level where the one that comes is
+    // the smaller one doesn't touch.
+    fn sink(&mut self, mut spare: Box<Node>, entry: &mut Entry, level: u32) -> bool
+        requires { self.old.height + level ≤ 96 }
+        ensures entries { IsPlaced entry.old self.old.entries self.new.entries (left_over result entry.new) }
+        ensures height { self.new.height + level ≤ 96 }
+    {
         if level >= LEVELS {
-            return Some(entry);
+            return false;
         }
         match &mut self.link {
             Link::Empty => {
                 *spare = Node {
-                    entry,
+                    entry: *entry,
                     cover: entry.bounds,
+                    fork: LEVELS - 1,
                     low: Tree::new(),
                     high: Tree::new(),
                 };
                 self.link = Link::Node(spare);
-                None
+                true
             }
             Link::Node(node) => {
                 let node: &mut Node = node;
-                node.cover = node.cover.covering(&entry.bounds);
-                let (top, lower) = larger_first(node.entry, entry);
-                node.entry = top;
-                if lower.is_high(level) {
-                    return node.high.place(spare, lower, level + 1);
+                let parting = node.entry.parting(entry);
+                if level <= parting && parting < node.fork && !node.is_leaf() {
+                    let is_high = node.entry.is_high(parting);
+                    self.lift(spare, *entry, parting, is_high);
+                    return true;
                 }
-                node.low.place(spare, lower, level + 1)
+                node.fork = node.forked(parting, level);
+                node.cover = node.cover.covering(&entry.bounds);
+                keep_larger(&mut node.entry, entry);
+                if entry.is_high(node.fork) {
+                    return node.high.sink(spare, entry, node.fork + 1);
+                }
+                node.low.sink(spare, entry, node.fork + 1)
             }
         }
+    }
+
+    // A fork above all that is here, with the entry at it, and what is here on one of its sides.
+    fn lift(&mut self, mut spare: Box<Node>, entry: Entry, fork: u32, is_high: bool)
+        requires { self.old.height + fork < 96 }
+        ensures entries { IsPermutation (entry ∷ self.old.entries) self.new.entries }
+        ensures height { self.new.height ≡ self.old.height + 1 }
+    {
+        let below = replace(self, Tree::new());
+        let cover = below.widened(&entry.bounds);
+        let (low, high) = if is_high {
+            (Tree::new(), below)
+        } else {
+            (below, Tree::new())
+        };
+        *spare = Node {
+            entry,
+            cover,
+            fork,
+            low,
+            high,
+        };
+        self.link = Link::Node(spare);
     }
 
     // Takes the root's entry out.
@@ -188,7 +261,7 @@ impl Tree {
     }
 
     // Takes the entry out, and says whether it was there.
-    pub fn remove(&mut self, entry: &Entry, level: u32) -> bool
+    pub fn remove(&mut self, entry: &Entry) -> bool
         ensures entries { IsRemoved entry.now self.old.entries self.new.entries result }
         ensures height { self.new.height ≤ self.old.height }
     {
@@ -200,23 +273,22 @@ impl Tree {
                     if node.cover.is_exceeded(&entry.bounds) {
                         return false;
                     }
-                    let deeper = level.wrapping_add(1);
-                    if entry.is_high(level) {
-                        if node.high.remove(entry, deeper) {
+                    if entry.is_high(node.fork) {
+                        if node.high.remove(entry) {
                             node.cover = cover_of(&node.entry, &node.low, &node.high);
                             return true;
                         }
-                        if node.low.remove(entry, deeper) {
+                        if node.low.remove(entry) {
                             node.cover = cover_of(&node.entry, &node.low, &node.high);
                             return true;
                         }
                         return false;
                     }
-                    if node.low.remove(entry, deeper) {
+                    if node.low.remove(entry) {
                         node.cover = cover_of(&node.entry, &node.low, &node.high);
                         return true;
                     }
-                    if node.high.remove(entry, deeper) {
+                    if node.high.remove(entry) {
                         node.cover = cover_of(&node.entry, &node.low, &node.high);
                         return true;
                     }
@@ -230,7 +302,7 @@ impl Tree {
 
     // Another entry stands at the node of an entry, and it says whether that was there. Where the new one would have gone down to tells of
     // time alone: what is looked for on one side is looked for on the other one too.
-    pub fn replace(&mut self, old: &Entry, new: Entry, level: u32) -> bool
+    pub fn replace(&mut self, old: &Entry, new: Entry) -> bool
         ensures entries { IsReplaced old.now new self.old.entries self.new.entries result }
         ensures height { self.new.height ≡ self.old.height }
     {
@@ -242,23 +314,22 @@ impl Tree {
                     if node.cover.is_exceeded(&old.bounds) {
                         return false;
                     }
-                    let deeper = level.wrapping_add(1);
-                    if old.is_high(level) {
-                        if node.high.replace(old, new, deeper) {
+                    if old.is_high(node.fork) {
+                        if node.high.replace(old, new) {
                             node.cover = cover_of(&node.entry, &node.low, &node.high);
                             return true;
                         }
-                        if node.low.replace(old, new, deeper) {
+                        if node.low.replace(old, new) {
                             node.cover = cover_of(&node.entry, &node.low, &node.high);
                             return true;
                         }
                         return false;
                     }
-                    if node.low.replace(old, new, deeper) {
+                    if node.low.replace(old, new) {
                         node.cover = cover_of(&node.entry, &node.low, &node.high);
                         return true;
                     }
-                    if node.high.replace(old, new, deeper) {
+                    if node.high.replace(old, new) {
                         node.cover = cover_of(&node.entry, &node.low, &node.high);
                         return true;
                     }
@@ -331,13 +402,11 @@ fn cover_of(entry: &Entry, low: &Tree, high: &Tree) -> BoundingBox
     high.widened(&low.widened(&entry.bounds))
 }
 
-// The two, the larger one first.
-fn larger_first(first: Entry, second: Entry) -> (Entry, Entry)
-    ensures { IsEither first second result }
+// The larger one of the two comes to the top.
+fn keep_larger(top: &mut Entry, lower: &mut Entry)
+    ensures { IsEither top.old lower.old (top.new, lower.new) }
 {
-    if first.size() < second.size() {
-        (second, first)
-    } else {
-        (first, second)
+    if top.size() < lower.size() {
+        swap(top, lower);
     }
 }
