@@ -22,7 +22,7 @@ pub use Rattle.lower_envelope.proofs.Boundaries.{AreCyclesRead, cycles_begin, cy
 use Rattle.dart_walks.specs.DartWalks.{AreJust}
 use Rattle.listed_faces.specs.FaceParts.{AreBoundariesOf, IsBoundaryOf, IsIsolatedIn, is_kind}
 use Rattle.listed_faces.proofs.KeptDarts.{kind_is, itself}
-use Rattle.listed_faces.proofs.OnceListed.{filtered_once}
+use Rattle.sound_views.proofs.OnceFiltered.{filtered_once}
 use Rattle.arrangement.specs.FacesRead.{kept_darts}
 
 -- one more is taken, where it passes

@@ -25,7 +25,7 @@ less_at_most : (x y z : ℤ) → x <ℤ y → y ≤ℤ z → x <ℤ z
 less_at_most x y z h k = omega (arith, ints)
 
 -- where a range is beyond one end of another one, so are two numbers in it
-beyond_in : (low high s t least greatest : ℤ) → low ≤ℤ s → s ≤ℤ high → low ≤ℤ t → t ≤ℤ high → are_ranges_apart low high least greatest ≡ true → are_beyond s t least greatest ≡ true
+pub beyond_in : (low high s t least greatest : ℤ) → low ≤ℤ s → s ≤ℤ high → low ≤ℤ t → t ≤ℤ high → are_ranges_apart low high least greatest ≡ true → are_beyond s t least greatest ≡ true
 beyond_in low high s t least greatest a b c d e = elim (or_out (int_lt high least) (int_lt greatest low) e) [
   | inl h ↦
       let k = lt_out high least h in

@@ -87,8 +87,9 @@ pub fn look_at_cycles<S: NameCalls, K: Looker<S>, L: Ledger>(
     }
 }
 
-// Looks at each isolated vertex in the face once.
-fn look_at_isolated<S: NameCalls, K: Looker<S>, L: Ledger>(
+/// Looks at each isolated vertex in the face once, and at no dart. What was seen before stays seen. It goes round the face's own list, and
+/// takes no memory.
+pub fn look_at_isolated<S: NameCalls, K: Looker<S>, L: Ledger>(
     looker: &mut K,
     sight: &S,
     face: FaceId,

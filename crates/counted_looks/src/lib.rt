@@ -12,7 +12,7 @@ mod name_calls;
 mod naming;
 mod vertices;
 
-pub use boundary::{look_at_boundary, look_at_cycles};
+pub use boundary::{look_at_boundary, look_at_cycles, look_at_isolated};
 pub use boundary_part::BoundaryPart;
 pub use cycle_glimpse::CycleGlimpse;
 pub use glance::{Glance, Looked};

@@ -2,6 +2,7 @@
 use Rattle.std.proofs.Common.{◌≡◌, ℕ, ◌≤◌, ◌&&◌, Bool, true, false, List, [], Option, Some, None, is_some, refl, sym, ap, subst, ◌∙◌}
 use Rattle.std.specs.Prelude.{IfSome, IfNone}
 use Rattle.std.proofs.lemmas.Bool.{false≢true}
+use Rattle.integers.proofs.Decisions.{both_in}
 use Rattle.exact_plane.specs.Point.{Point}
 use Rattle.plane_graphs.specs.Ascending.{Member}
 use Rattle.plane_graphs.specs.Line.{precedes}
@@ -12,20 +13,13 @@ use Rattle.slab_laws.specs.Tables.{row_at}
 use Rattle.slab_laws.specs.View.{View, HasDart, dart_id, point_in, source_in, target_in}
 use Rattle.arr_notes.specs.Curves.{is_forward, AreCurvesOf}
 use Rattle.edit_steps.specs.EditLaws.{curve_of}
+use Rattle.edit_steps.proofs.StrandPaths.{strand_is_of}
 use Rattle.curve_history.specs.declared.history.History.TheInside.{Inside}
 use Rattle.curve_history.specs.DrawnRecords.{passes, IsPassed}
 use Rattle.curve_history.specs.HistoryInMemory.{ArePairs, Says}
 use Rattle.curve_history.specs.Past.{Past, curves_on, strands_on}
 use Rattle.curve_history.proofs.Histories.{held_says, says_held, says_runs, IsSeen}
-use Rattle.curve_history.proofs.Sides.{strand_curve}
 use Rattle.curve_history.proofs.Twins.{says_back, says_beside}
-
-pub not_true : (b : Bool) → (b ≡ true → ⊥) → b ≡ false
-not_true true h = absurd (h refl)
-not_true false h = refl
-
-pub both_true : (a b : Bool) → a ≡ true → b ≡ true → (a && b) ≡ true
-both_true a b p q = rw (p, q) refl
 
 first_true : (a b : Bool) → (a && b) ≡ true → a ≡ true
 first_true true b h = refl
@@ -77,5 +71,5 @@ module _ (i : Inside) (old : Past) (s : IsSeen i old) (pairs : ArePairs i.by_edg
     pub not_passed : (z : ℕ) → z ≡ strand k.curve.0 k.side → k.side ≤ 8 → ((d : DartId) → Says i.by_curve k.curve.0 d.0 → Says i.by_edge d.0 z → passes v d p ≡ false) → (d : DartId) → ¬ IsPassed v old k p d
     not_passed z e l f d x =
         let n : Says i.by_edge d.0 z = subst (Says i.by_edge d.0) (sym e) (held_says i old s d (strand k.curve.0 k.side) x.runs) in
-        let m : Says i.by_curve k.curve.0 d.0 = subst (λ c. Says i.by_curve c d.0) (ap curve_of e ∙ strand_curve k.curve.0 k.side l) (says_beside i.by_edge i.by_curve d.0 z pairs n) in
-        false≢true (sym (f d m n) ∙ both_true (precedes (point_in v (source_in v d)) p) (precedes p (point_in v (target_in v d))) x.from x.to)
+        let m : Says i.by_curve k.curve.0 d.0 = subst (λ c. Says i.by_curve c d.0) (ap curve_of e ∙ strand_is_of k.curve.0 k.side l) (says_beside i.by_edge i.by_curve d.0 z pairs n) in
+        false≢true (sym (f d m n) ∙ both_in (precedes (point_in v (source_in v d)) p) (precedes p (point_in v (target_in v d))) x.from x.to)

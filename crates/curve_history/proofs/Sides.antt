@@ -21,12 +21,10 @@ use Rattle.slab_laws.specs.View.{View, dart_id}
 use Rattle.arr_notes.specs.Curves.{AreCurvesOf}
 use Rattle.curve_history.specs.Past.{Past, strands_on, curves_of, curves_on, SameStrands, SameCurves, StrandsChangeOn, AreChangedOn, GainsStrand, GainsCurve, LosesStrand, LosesSides, LosesStrands, LosesCurve, LosesCurves, CopiesStrands, CopiesCurves}
 use Rattle.edit_steps.specs.EditLaws.{curve_of}
+use Rattle.edit_steps.proofs.StrandPaths.{strand_is_of}
 use Rattle.plane_graphs.specs.Strands.{strand}
 use Rattle.curve_history.proofs.Walking.{none_there}
 use Rattle.integers.proofs.Tests.{nat_exact, less_nat, number_ties, other_number}
-
-pub strand_curve : (c side : ℕ) → side ≤ 8 → curve_of (strand c side) ≡ c
-strand_curve c side h = omega arith
 
 -- ---- the curves of a list of sides
 pub in_curves : (z : ℕ) (zs : List ℕ) → Member z zs → Member (curve_of z) (curves_of zs)
@@ -146,7 +144,7 @@ pub loses_as : (old new : Past) (d : DartId) (z y : ℕ) → z ≡ y → LosesSt
 loses_as old new d z y e h = subst (LosesStrand old new d) e h
 
 pub gains : (old new : Past) (d : DartId) (c side : ℕ) → side ≤ 8 → GainsStrand old new d (strand c side) → GainsCurve old new d c
-gains old new d c side l h = change_curves old new d (place nat_cmp (strand c side)) (place nat_cmp c) (λ x q. curves_place (strand c side) c (strand_curve c side l) (strands_on old x)) h
+gains old new d c side l h = change_curves old new d (place nat_cmp (strand c side)) (place nat_cmp c) (λ x q. curves_place (strand c side) c (strand_is_of c side l) (strands_on old x)) h
 
 pub loses_sides : (old new : Past) (d : DartId) (c : ℕ) → LosesSides old new d c → LosesCurve old new d c
 loses_sides old new d c h = change_curves old new d (filter (λ z. not (same_curve (curve_of z) c))) (filter (λ k. not (same_curve k c)))
@@ -158,12 +156,12 @@ pub loses_last : (old new : Past) (d : DartId) (c side : ℕ) → side ≤ 8 →
 loses_last old new d c side l only h = change_curves old new d (filter (λ z. not (same_curve z (strand c side)))) (filter (λ k. not (same_curve k c)))
     (λ x q. curves_less c (λ z. not (same_curve z (strand c side))) (strands_on old x)
     (λ z m e f. clash (curve_in z (strand c side) (only z (subst (λ y. Member z (strands_on old y)) q m) e)) (not_out (same_curve z (strand c side)) f))
-    (λ z m ne. not_in (same_curve z (strand c side)) (λ f. ne (ap curve_of (curve_out z (strand c side) f) ∙ strand_curve c side l)))) h
+    (λ z m ne. not_in (same_curve z (strand c side)) (λ f. ne (ap curve_of (curve_out z (strand c side) f) ∙ strand_is_of c side l)))) h
 
 pub loses_none : (old new : Past) (d : DartId) (c side : ℕ) → side ≤ 8 → (w : ℕ) → Member w (strands_on old d) → curve_of w ≡ c → w ≢ strand c side → LosesStrand old new d (strand c side) → SameCurves old new
 loses_none old new d c side l w m e ne h x =
     change_curves old new d (filter (λ z. not (same_curve z (strand c side)))) (λ ks. ks)
-    (λ y q. curves_still (strand c side) w (strands_on old y) (subst (λ u. Member w (strands_on old u)) (sym q) m) (e ∙ sym (strand_curve c side l)) ne) h x
+    (λ y q. curves_still (strand c side) w (strands_on old y) (subst (λ u. Member w (strands_on old u)) (sym q) m) (e ∙ sym (strand_is_of c side l)) ne) h x
     ∙ both (x.0 == d.0)
   where
     both : (b : Bool) → cond b (curves_on old x) (curves_on old x) ≡ curves_on old x

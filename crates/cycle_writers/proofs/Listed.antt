@@ -1,5 +1,5 @@
 -- Names of cycles and of vertices in lists.
-use Rattle.std.proofs.Common.{◌≡◌, ◌≢◌, ◌↔◌, ◌==◌, Bool, true, false, cond, List, [], ◌∷◌, sym, ap, ◌∙◌, subst}
+use Rattle.std.proofs.Common.{◌≡◌, ◌≢◌, ◌↔◌, ◌==◌, Bool, true, List, sym, ap, ◌∙◌, subst}
 use Rattle.std.specs.Prelude.{not, ◌&&◌}
 use Rattle.std.specs.List.{filter}
 use Rattle.std.proofs.lemmas.Bool.{eqb-true}
@@ -10,7 +10,7 @@ use Rattle.plane_graphs.proofs.Lists.{any_in, any_out, in_filter, of_filter}
 use Rattle.slab_laws.specs.declared.names.CycleId.{CycleId}
 use Rattle.slab_laws.specs.declared.names.FaceId.{FaceId}
 use Rattle.slab_laws.specs.declared.names.VertexId.{VertexId}
-use Rattle.slab_laws.specs.FaceLists.{Lists, AreOnce}
+use Rattle.slab_laws.specs.FaceLists.{Lists}
 use Rattle.slab_laws.specs.View.{View}
 use Rattle.arr_notes.specs.FaceWriters.{lists_cycle, lists_vertex}
 use Rattle.face_changes.specs.FacesByPairs.{beside, round}
@@ -31,15 +31,6 @@ lists_bare us u = (
 
 pub filter_member : {X : Type 0} (p : X → Bool) (x : X) (xs : List X) → Member x (filter p xs) ↔ (Member x xs × (p x ≡ true))
 filter_member p x xs = (λ m. of_filter p x xs m, λ m. in_filter p x xs m.0 m.1)
-
--- what passes stands once, where all did
-pub filtered_once : {X : Type 0} (p : X → Bool) (xs : List X) → AreOnce xs → AreOnce (filter p xs)
-filtered_once p [] o = tt
-filtered_once {X} p (x ∷ xs) o = go (p x) (filtered_once p xs o.1)
-  where
-    go : (b : Bool) → AreOnce (filter p xs) → AreOnce (cond b (x ∷ filter p xs) (filter p xs))
-    go true k = (λ m. o.0 ((of_filter p x xs m).0), k)
-    go false k = k
 
 pub another : (c but : CycleId) → not (c.0 == but.0) ≡ true → c ≢ but
 another c but n e = let z = sym (ap not (ap (λ (z : CycleId). z.0 == but.0) e ∙ same_number but.0)) ∙ n in absurd (cc)

@@ -7,6 +7,7 @@ use Rattle.slab_laws.specs.declared.names.DartId.{DartId}
 use Rattle.slab_laws.specs.declared.names.FaceId.{FaceId}
 use Rattle.slab_laws.specs.declared.names.VertexId.{VertexId}
 use Rattle.slab_laws.specs.FaceLists.{Lists, AreFacesListed}
+use Rattle.sound_views.proofs.OnceFiltered.{filtered_once}
 use Rattle.slab_laws.specs.FacesSound.{IsSound, IsOuterOf}
 use Rattle.slab_laws.specs.Tables.{row_at}
 use Rattle.slab_laws.specs.View.{View, Faces, CycleRecord, HasCycle, HasFace, HasBareFace, kind_or, face_or, kind_in, face_in}
@@ -22,7 +23,7 @@ use Rattle.face_steps.proofs.StepSplits.{cycle_row_new, cycle_row_old, in_face, 
 use Rattle.cycle_writers.specs.declared.moves.Which.{Which}
 use Rattle.cycle_writers.specs.declared.moves.Which.TheVariants.{All}
 use Rattle.cycle_writers.specs.Taken.{cycles_taken, takes_cycle, takes_vertex, vertices_taken}
-use Rattle.cycle_writers.proofs.Listed.{filtered_once, listed_bare, listed_taken, lists_bare, lists_member}
+use Rattle.cycle_writers.proofs.Listed.{listed_bare, listed_taken, lists_bare, lists_member}
 
 -- no face has two outer cycles
 only_outer : (v : View) (f : Faces) (a : FaceId) (c e : CycleId) → IsSound v f → IsOuterOf f a c → IsOuterOf f a e → ¬ (e ≢ c)

@@ -1,13 +1,14 @@
 -- An edge that is split at a point inside it: what the proofs about it take of that.
 -- g has the edge e, h its two parts at v; hv and hs are the vertices and edges of h, `rest` the edges of both.
 use Rattle.std.proofs.Common.{◌≡◌, Bool, true, false, arith, refl, sym, ◌∙◌, inl, inr, List}
-use Rattle.std.specs.Prelude.{not, ◌&&◌, ◌||◌, ℤ, pos, ◌-ℤ◌, ◌*ℤ◌}
+use Rattle.std.specs.Prelude.{◌&&◌, ℤ, pos, ◌-ℤ◌, ◌*ℤ◌}
 use Rattle.std.specs.List.{Contains}
-use Rattle.std.proofs.lemmas.Bool.{and_parts, not-true}
+use Rattle.std.proofs.lemmas.Bool.{and_parts}
 use Rattle.exact_plane.specs.Point.{Point}
 use Rattle.plane_graphs.specs.Graph.{Edge}
-use Rattle.slab_laws.specs.Skeleton.{run, lower_than, precedes, Skeleton, HasWeight, left_of}
-use Rattle.slab_faces.proofs.Walls.{left_of-asym, left_of-before, left_of-after}
+use Rattle.slab_laws.specs.Skeleton.{run, precedes, Skeleton, HasWeight, left_of}
+use Rattle.slab_faces.proofs.Points.{before_weak}
+use Rattle.slab_faces.proofs.Walls.{left_of-before, left_of-after}
 use Rattle.face_changes.proofs.NewWall.{HasNewVertex, V as at_v, W as weight_v}
 use Rattle.face_changes.specs.EdgeSplit.{HasEdgeSplit}
 use Rattle.std.proofs.lemmas.Int.{ints}
@@ -36,13 +37,6 @@ pub record SplitFacts (g : Skeleton) (hv : List Point) (hs : List Edge) (e : Edg
   pub kept_edge : (z : Edge) → Contains rest z → Contains hs z
   pub low_slant : left_of e.low v ≡ left_of e.low e.high
   pub high_slant : left_of v e.high ≡ left_of e.low e.high
-
-not_before : (a b : Point) → precedes a b ≡ true → left_of b a ≡ false
-not_before a b k = go (left_of a b) refl k
-  where
-    go : (c : Bool) → left_of a b ≡ c → (c || (not (left_of b a) && lower_than a b)) ≡ true → left_of b a ≡ false
-    go true q k = left_of-asym a b q
-    go false q k = not-true _ (and_parts (not (left_of b a)) (lower_than a b) k).0
 
 difference : (a b : ℤ) → lt_z a b ≡ lt_z (pos 0) (b -ℤ a)
 difference a b = go (lt_z a b) (lt_z (pos 0) (b -ℤ a)) refl refl
@@ -74,10 +68,10 @@ module _ (g : Skeleton) (hv : List Point) (hs : List Edge) (e : Edge) (v : Point
   in_parts = let a = and_parts (precedes e.low v && precedes v e.high) _ m.inside_it in and_parts (precedes e.low v) (precedes v e.high) a.0
 
   after_low : left_of v e.low ≡ false
-  after_low = not_before e.low v in_parts.0
+  after_low = before_weak e.low v in_parts.0
 
   before_high : left_of e.high v ≡ false
-  before_high = not_before v e.high in_parts.1
+  before_high = before_weak v e.high in_parts.1
 
   Lw : HasWeight e.low
   Lw = m.proper_low.positive

@@ -8,7 +8,7 @@ use Rattle.plane_graphs.specs.Graph.{Edge}
 use Rattle.slab_laws.specs.Skeleton.{over, lower_than, Skeleton, HasWeight, left_of, on_wall}
 use Rattle.slab_laws.specs.Slabs.{reaches_left, reaches_right, left_count, right_count}
 use Rattle.slab_laws.specs.Meets.{IsOpenAbove, covers_above}
-use Rattle.slab_faces.proofs.Walls.{left_of-before, left_of-after, on_wall_parts, lower_than-before, lower_than-asym}
+use Rattle.slab_faces.proofs.Walls.{left_of-before, left_of-after, level_walls, on_wall_parts, lower_than-before, lower_than-asym}
 use Rattle.face_changes.proofs.NewWall.{AreEdgesAlike}
 use Rattle.face_changes.specs.EdgeSplit.{HasEdgeSplit}
 use Rattle.rotation_order.specs.EdgeParts.{lower_part, upper_part}
@@ -50,12 +50,6 @@ covers_out q t k =
 
 covers_in : (q : Edge) (t : Point) → Covers q t → covers_above q t ≡ true
 covers_in q t c = rw (c.low_wall, c.high_wall, c.from, c.to) refl
-
-level_walls : (a b t : Point) → HasWeight a → HasWeight b → HasWeight t → on_wall a t ≡ true → on_wall b t ≡ true → (left_of a b ≡ false) × (left_of b a ≡ false)
-level_walls a b t A B T x y =
-    let p = on_wall_parts a t x in
-    let q = on_wall_parts b t y in
-    (false_from_ne_true (left_of a b) (λ k. false≢true (sym q.1 ∙ left_of-after t a b T A B p.0 k)), false_from_ne_true (left_of b a) (λ k. false≢true (sym p.1 ∙ left_of-after t b a T B A q.0 k)))
 
 module _ (g : Skeleton) (hv : List Point) (hs : List Edge) (e : Edge) (v : Point) (rest : List Edge) (m : HasEdgeSplit g (record { vertices = hv; edges = hs }) e v rest) where
   abbrev h : Skeleton

@@ -12,7 +12,7 @@ mod walks;
 
 ghost use Rattle.face_ranks.specs.Ranks.{FaceIsLocated};
 
-pub use order::{Ranking, rank_of};
+pub use order::{Ranking, key_of, rank_of};
 pub use walks::rank_told;
 
 /// A point on no vertex and no edge lies in the face of the rank that the name of its face has.

@@ -28,8 +28,8 @@ fn ends_of(records: &Records, d: DartId) -> (Point, Point)
     )
 }
 
-// The ends of the least dart of a cycle, and its face.
-pub(crate) fn key_of(records: &Records, cycle: CycleId) -> RankKey
+/// The ends of the least dart of a cycle, and its face.
+pub fn key_of(records: &Records, cycle: CycleId) -> RankKey
     requires map { IsSoundMap records.now }
     requires cycle { HasCycle (tables_of records.now) cycle }
     ensures { result ≡ cycle_rank_key records.now.graph (tables_of records.now) (lists_of records.now) cycle }

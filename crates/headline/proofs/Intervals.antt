@@ -7,18 +7,11 @@ use Rattle.exact_plane.specs.Point.{Point}
 use Rattle.plane_graphs.specs.Graph.{Edge}
 use Rattle.slab_laws.specs.Skeleton.{Skeleton, HasWeight, left_of, lower_than, on_wall, IsPlaneSkeleton}
 use Rattle.slab_laws.specs.Meets.{covers_above}
-use Rattle.slab_faces.proofs.Walls.{left_of-irrefl, lower_than-irrefl, lower_than-before, lower_than-after, on_wall_parts}
-use Rattle.slab_faces.proofs.Cells.{not_right_trans}
+use Rattle.slab_faces.proofs.Walls.{left_of-irrefl, lower_than-irrefl, lower_than-before, lower_than-after, level_walls}
 use Rattle.slab_faces.proofs.Along.{IsUpright, covers_parts, no_upright}
 use Rattle.slab_faces.proofs.Turns.{on_own_wall}
 use Rattle.slab_faces.proofs.Upright.{not_inside}
 use Rattle.headline.specs.Intervals.{at_one_place, HasVertexAt, HasEdgeThrough, IsStop, IsUpperStop, HasStopsAsEnds, CoversWholeIntervals, CoversFromStops, OpenIsUncovered}
-
--- two points on the wall of t are on one wall
-beside : (p q t : Point) → HasWeight p → HasWeight q → HasWeight t → on_wall p t ≡ true → on_wall q t ≡ true → (left_of p q ≡ false) × (left_of q p ≡ false)
-beside p q t P Q T h k =
-    let a = on_wall_parts p t h in
-    let b = on_wall_parts q t k in (not_right_trans q t p Q T P b.1 a.0, not_right_trans p t q P T Q a.1 b.0)
 
 pub on_itself : (t : Point) → on_wall t t ≡ true
 on_itself t = and_from _ _ (ap not (left_of-irrefl t)) (ap not (left_of-irrefl t))
@@ -26,8 +19,8 @@ on_itself t = and_from _ _ (ap not (left_of-irrefl t)) (ap not (left_of-irrefl t
 -- a vertical edge on the wall of t, with both ends there
 upright_at : (e : Edge) (t r : Point) → HasWeight e.low → HasWeight e.high → HasWeight t → HasWeight r → on_wall e.low t ≡ true → on_wall e.high t ≡ true → on_wall r t ≡ true → IsUpright e r
 upright_at e t r P Q T R l h w =
-    let a = beside e.low r t P R T l w in
-    let b = beside e.high r t Q R T h w in
+    let a = level_walls e.low r t P R T l w in
+    let b = level_walls e.high r t Q R T h w in
     record { lower_1 = a.0; lower_2 = a.1; upper_1 = b.0; upper_2 = b.1 }
 
 module _ (g : Skeleton) (plane : IsPlaneSkeleton g) where

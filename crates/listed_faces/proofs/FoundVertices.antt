@@ -15,7 +15,8 @@ use Rattle.sound_views.proofs.NameTables.{has_name}
 use Rattle.dart_walks.specs.DartWalks.{AreJust}
 use Rattle.listed_faces.specs.Boundaries.{is_isolated_in}
 use Rattle.listed_faces.specs.FaceParts.{IsIsolatedIn}
-use Rattle.listed_faces.proofs.OnceListed.{filtered_once, names_once}
+use Rattle.sound_views.proofs.OnceFiltered.{filtered_once}
+use Rattle.listed_faces.proofs.OnceListed.{names_once}
 
 -- of the vertices that were met those that are isolated in the face are listed
 pub record AreFoundSoFar (v : View) (f : Faces) (a : FaceId) (last : Option VertexId) (found : List VertexId) : Type 0 where

@@ -18,14 +18,6 @@ once_kept {X} {Y} g p (x ∷ xs) o = go (p x) (once_kept g p xs o.1)
     )
     go false k = k
 
-pub filtered_once : {X : Type 0} (p : X → Bool) (xs : List X) → AreOnce xs → AreOnce (filter p xs)
-filtered_once p [] o = tt
-filtered_once {X} p (x ∷ xs) o = go (p x) (filtered_once p xs o.1)
-  where
-    go : (b : Bool) → AreOnce (filter p xs) → AreOnce (cond b (x ∷ filter p xs) (filter p xs))
-    go true k = (λ m. o.0 ((of_filter p x xs m).0), k)
-    go false k = k
-
 -- names that ascend, as what they name
 pub names_once : {A : Type 0} (make : ℕ → A) (number : A → ℕ) → ((n : ℕ) → number (make n) ≡ n) → (ns : List ℕ) → NamesAscend ns → AreOnce (map make ns)
 names_once make number back [] a = tt

@@ -1,5 +1,5 @@
 -- What becomes of a seated observer that was told a note, by what it answered.
-use Rattle.std.proofs.Common.{◌≡◌, ℕ, ◌-◌, ◌==◌, Bool, true, false, cond, Option, Some, None, Result, Ok, Err, refl, sym, ap, ◌∙◌, subst, inl, inr, IsSome, IsTrue}
+use Rattle.std.proofs.Common.{◌≡◌, ℕ, ◌-◌, ◌==◌, Bool, true, false, cond, Option, Some, None, Result, Ok, Err, refl, sym, ap, ◌∙◌, subst, inl, inr, IsTrue}
 use Rattle.std.specs.Prelude.{◌↔◌, IsErrAnd, OnErr, OnOk}
 use Rattle.std.specs.Option.{option_eq}
 use Rattle.std.proofs.lemmas.Bool.{false≢true}
@@ -96,11 +96,6 @@ lost_told e = cc
 
 pub last_lost : ToldLast ≡ Lost → ⊥
 last_lost e = cc
-
--- no join is planned where an observer is seated
-pub not_planned : (o : Option ℕ) → IsSome o → o ≡ None → ⊥
-not_planned None p e = cc
-not_planned (Some k) p e = cc
 
 -- ---- what is kept of a seat that was told a note
 pub kept_told : (n : Note) (w : CurvedView) (f : Fate) (s t : SeatRow) → f ≡ Told → IsTold n s t → IsKept n w f s t

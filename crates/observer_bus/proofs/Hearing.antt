@@ -3,11 +3,11 @@ use Rattle.std.proofs.Common.{◌≡◌, ℕ, ◌==◌, false, List, [], ◌∷�
 use Rattle.std.specs.List.{AllByRecursion, IsDistinct}
 use Rattle.std.proofs.lemmas.Bool.{eqb-false}
 use Rattle.plane_graphs.specs.Ascending.{Member}
+use Rattle.plane_graphs.proofs.Lists.{not_none}
 use Rattle.arr_notes.specs.CurvedView.{CurvedView}
 use Rattle.arr_notes.specs.Notes.{FitsNote, heard_after}
 use Rattle.arr_notes.specs.declared.note.Note.{Note}
 use Rattle.arr_notes.specs.declared.note.Note.TheVariants.{After}
-use Rattle.observer_bus.proofs.Heard.{not_planned}
 use Rattle.observer_bus.proofs.Holding.{all_hold}
 use Rattle.observer_bus.proofs.Room.{FitsJoin, fits_join}
 use Rattle.observer_bus.specs.RoundLaws.{AreLed, AreRounds, AreRoundsLawful, HaveNamesApart, MayNotesBeHeard, heard_in, seat_names}
@@ -90,7 +90,7 @@ came_from n w (gone q u g r) t m = let c = came_from n w r t m in (c.0, inr c.1,
 told_seated : (n : Note) (w : CurvedView) (f : Fate) (s t : SeatRow) → FitsJoin f s.join → IsKept n w f s t → s.join ≡ None → (t.join ≡ None) × (t.heard ≡ heard_after s.heard n)
 told_seated n w Told s t q k j = (k.join, k.heard)
 told_seated n w Joined s t q k j = let e : Some 1 ≡ None = sym q ∙ j in cc
-told_seated n w Waits s t q k j = absurd (not_planned s.join q j)
+told_seated n w Waits s t q k j = absurd (not_none s.join q j)
 told_seated n w ToldLast s t q k j = absurd k
 told_seated n w LeftUntold s t q k j = absurd k
 told_seated n w Lost s t q k j = absurd k

@@ -1,7 +1,9 @@
 -- The forward darts of records, in the order of names, tell each edge with the rank of the face above it.
-use Rattle.std.proofs.Common.{◌≡◌, ℕ, ◌<◌, ◌+◌, Bool, true, false, cond, refl, sym, ap, ◌∙◌, subst, List, [], ◌∷◌, ◌++◌, length, map, take, get_or}
+use Rattle.std.proofs.Common.{◌≡◌, ℕ, ◌<◌, ◌+◌, true, false, cond, refl, sym, ap, ◌∙◌, subst, List, [], ◌∷◌, ◌++◌, length, map, take, get_or}
 use Rattle.std.specs.Prelude.{filter}
 use Rattle.std.specs.List.{Contains}
+use Rattle.std.proofs.lemmas.List.{append-nil, map-append}
+use Rattle.std.proofs.lemmas.List.Elements.{filter-append}
 use Rattle.exact_plane.specs.Line.{Line}
 use Rattle.exact_plane.specs.Span.{Span}
 use Rattle.plane_graphs.specs.Ascending.{Member}
@@ -39,31 +41,15 @@ span_is v d s e l = λ i. record { lower = (e i).low; upper = (e i).high; line =
 abbrev pub owned_by : RecordsView → List DartId → List OwnEdge
 owned_by h ds = map (own_of h) (filter (is_forward h.graph) ds)
 
-cond_both : {X : Type 0} (b : Bool) (y : X) (xs ys zs : List X) → xs ≡ ys ++ zs → cond b (y ∷ xs) xs ≡ cond b (y ∷ ys) ys ++ zs
-cond_both true y xs ys zs e = ap (λ us. y ∷ us) e
-cond_both false y xs ys zs e = e
-
-filter_both : {X : Type 0} (p : X → Bool) (xs : List X) (x : X) → filter p (xs ++ x ∷ []) ≡ filter p xs ++ cond (p x) (x ∷ []) []
-filter_both p [] x = refl
-filter_both p (y ∷ ys) x = cond_both (p y) y (filter p (ys ++ x ∷ [])) (filter p ys) (cond (p x) (x ∷ []) []) (filter_both p ys x)
-
-map_both : {X Y : Type 0} (f : X → Y) (xs ys : List X) → map f (xs ++ ys) ≡ map f xs ++ map f ys
-map_both f [] ys = refl
-map_both f (x ∷ xs) ys = ap (λ zs. f x ∷ zs) (map_both f xs ys)
-
-nothing_more : {X : Type 0} (xs : List X) → xs ++ [] ≡ xs
-nothing_more [] = refl
-nothing_more (x ∷ xs) = ap (λ zs. x ∷ zs) (nothing_more xs)
-
 module _ (h : RecordsView) (ds : List DartId) (i : ℕ) (d : DartId) (l : i < length ds) (e : d ≡ get_or ds i d) where
   pub owned_more : (now new : List OwnEdge) → is_forward h.graph d ≡ true → now ≡ owned_by h (take i ds) → new ≡ now ++ own_of h d ∷ [] → new ≡ owned_by h (take (i + 1) ds)
   owned_more now new f n m =
       m ∙ ap (λ zs. zs ++ own_of h d ∷ []) n
-      ∙ sym (ap (owned_by h) (take_next ds i d l e) ∙ ap (map (own_of h)) (filter_both (is_forward h.graph) (take i ds) d ∙ ap (λ b. filter (is_forward h.graph) (take i ds) ++ cond b (d ∷ []) []) f) ∙ map_both (own_of h) (filter (is_forward h.graph) (take i ds)) (d ∷ []))
+      ∙ sym (ap (owned_by h) (take_next ds i d l e) ∙ ap (map (own_of h)) (filter-append (is_forward h.graph) (take i ds) (d ∷ []) ∙ ap (λ b. filter (is_forward h.graph) (take i ds) ++ cond b (d ∷ []) []) f) ∙ map-append (own_of h) (filter (is_forward h.graph) (take i ds)) (d ∷ []))
 
   pub owned_same : (now : List OwnEdge) → is_forward h.graph d ≡ false → now ≡ owned_by h (take i ds) → now ≡ owned_by h (take (i + 1) ds)
   owned_same now f n =
-      n ∙ sym (ap (owned_by h) (take_next ds i d l e) ∙ ap (map (own_of h)) (filter_both (is_forward h.graph) (take i ds) d ∙ ap (λ b. filter (is_forward h.graph) (take i ds) ++ cond b (d ∷ []) []) f ∙ nothing_more (filter (is_forward h.graph) (take i ds))))
+      n ∙ sym (ap (owned_by h) (take_next ds i d l e) ∙ ap (map (own_of h)) (filter-append (is_forward h.graph) (take i ds) (d ∷ []) ∙ ap (λ b. filter (is_forward h.graph) (take i ds) ++ cond b (d ∷ []) []) f ∙ append-nil (filter (is_forward h.graph) (take i ds))))
 
 -- ---- all of them
 module _ (h : RecordsView) (m : IsSoundMap h) where

@@ -8,6 +8,7 @@ use Rattle.integers.proofs.Tests.{same_number}
 use Rattle.plane_graphs.proofs.Ascending.{All-member}
 use Rattle.plane_graphs.proofs.Sorting.{member_at, any_default}
 use Rattle.slab_laws.specs.declared.names.FaceId.{FaceId}
+use Rattle.face_changes.proofs.FacesByPairs.{by_number}
 use Rattle.dcel_records.specs.declared.ranks.RankKey.{RankKey}
 use Rattle.dcel_records.specs.RankOrders.{AreRanked}
 use Rattle.own_edges.specs.RankTables.{at_name}
@@ -38,9 +39,6 @@ none_written ks rs e a z = ap (λ xs. at_name xs a) e
 
 pub all_placed : (ks : List RankKey) (rs : List ℕ) (i : ℕ) → length ks ≤ i → ArePlaced ks rs i → AreRanked (at_name rs) 1 ks
 all_placed ks rs i l p = by_places (at_name rs) 1 ks (λ j d h. p j d (omega (arith, l, h)) h)
-
-by_number : (a b : FaceId) → a.0 ≡ b.0 → a ≡ b
-by_number a b e = λ i. record { 0 = e i }
 
 not_same : (m n : ℕ) → (m ≡ n → ⊥) → (m == n) ≡ false
 not_same m n f = false_from_ne_true (m == n) (λ t. f (eqb-true m n t))

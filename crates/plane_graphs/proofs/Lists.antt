@@ -1,7 +1,7 @@
 -- Membership in the lists that the definitions make.
 use Rattle.std.proofs.Common.{◌≡◌, List, [], ◌∷◌, ◌++◌, Bool, true, false, cond, not, ◌&&◌, ◌||◌, refl, sym, ap, ap₂, ◌∙◌, subst, inl, inr, ◌⊎◌, ⊎_elim, Ordering, Less, Equal, Greater, ◌≢◌, Option, Some, None, is_some, option_map, ℕ, append_assoc}
 use Rattle.std.specs.Cmp.{IsTotalOrder}
-use Rattle.std.specs.Prelude.{map}
+use Rattle.std.specs.Prelude.{map, IsSome}
 use Rattle.std.specs.List.{AllByRecursion, filter, list_any, flat_map}
 use Rattle.std.specs.Ordering.{match_ordering}
 use Rattle.integers.proofs.Decisions.{or_out}
@@ -15,6 +15,10 @@ and_in {a} {b} h k = rw (h, k) refl
 pub not_out : (a : Bool) → not a ≡ true → a ≡ false
 not_out true h = cc
 not_out false h = refl
+
+pub not_none : {T : Type 0} (o : Option T) → IsSome o → o ≡ None → ⊥
+not_none None p e = cc
+not_none (Some k) p e = cc
 
 pub not_in : (a : Bool) → (a ≡ true → ⊥) → not a ≡ true
 not_in true h = absurd (h refl)

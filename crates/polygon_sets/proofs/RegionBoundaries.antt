@@ -10,23 +10,16 @@ use Rattle.slab_laws.specs.Rows.{dart_list}
 use Rattle.slab_laws.specs.Skeleton.{Skeleton, IsPlaneSkeleton}
 use Rattle.slab_laws.specs.Slabs.{width}
 use Rattle.set_laws.specs.declared.op.Op.{Op}
-use Rattle.set_laws.specs.declared.op.Op.TheVariants.{Union, Intersection, Difference, Symmetric}
 use Rattle.set_laws.specs.EvenOdd.{by_op, odd_above, op_in, turns_at, border}
 use Rattle.set_laws.specs.EvenOddLaws.{IsOfFaces}
 use Rattle.set_laws.proofs.Insides.{of_faces, top_weight}
-use Rattle.set_laws.proofs.OpRegions.{border_is_listed}
+use Rattle.set_laws.proofs.OpRegions.{border_is_listed, nothing}
 use Rattle.polygon_sets.specs.Boundaries.{IsBoundary, is_inside}
 use Rattle.polygon_sets.specs.ClosedBorders.{IsClosedBorder}
 use Rattle.polygon_sets.specs.Regions.{dart_ends}
 use Rattle.polygon_sets.proofs.BorderGraphs.{one}
 use Rattle.polygon_sets.proofs.BorderSets.{is_side, border_graph, flat, even, same_darts}
 use Rattle.polygon_sets.proofs.ClosedRegions.{closed_border}
-
-nothing : (op : Op) → by_op op false false ≡ false
-nothing Union = refl
-nothing Intersection = refl
-nothing Difference = refl
-nothing Symmetric = refl
 
 module _ (op : Op) (g : Skeleton) (red blue : Edge → ℕ) (plane : IsPlaneSkeleton g) (r : IsOfFaces g red) (b : IsOfFaces g blue) where
   one_face : (c d : SlabCell) → SameFace g c d → op_in op g red blue c ≡ op_in op g red blue d

@@ -11,10 +11,6 @@ use Rattle.region_rings.specs.Spokes.{spoke_in, AreSpokes}
 use Rattle.region_rings.specs.Nexts.{vertex_at, IsFirstAt, IsLinkFrom}
 use Rattle.region_rings.proofs.Links.{in_at, one_in}
 
-pub not_no : (a : Bool) → not a ≡ false → a ≡ true
-not_no true h = refl
-not_no false h = cc
-
 pub goes_on : (ss : List Spoke) (i f : ℕ) → 0 < i → IsFirstAt ss (i - 1) f → vertex_at ss (i - 1) ≡ vertex_at ss i → IsFirstAt ss i f
 goes_on ss i f l h e = record {
   upto = let u = h.upto in omega arith;

@@ -32,7 +32,7 @@ use Rattle.set_laws.proofs.Insides.{top_weight, odd_is, of_faces, even_layer}
 use Rattle.set_laws.proofs.PieceEnds.{ends_of_both}
 use Rattle.set_laws.proofs.Regions.{IsBorderOf, told}
 
-nothing : (op : Op) → by_op op false false ≡ false
+pub nothing : (op : Op) → by_op op false false ≡ false
 nothing Union = refl
 nothing Intersection = refl
 nothing Difference = refl

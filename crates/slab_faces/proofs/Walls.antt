@@ -2,7 +2,7 @@
 use Rattle.std.proofs.Common.{◌≡◌, true, false, arith, sym, ◌∙◌}
 use Rattle.std.specs.Prelude.{ℤ, pos, ◌+ℤ◌, ◌-ℤ◌, ◌*ℤ◌, ◌<ℤ◌, ◌≤ℤ◌, not}
 use Rattle.std.proofs.lemmas.Int.{ints, by_lt_z}
-use Rattle.std.proofs.lemmas.Bool.{and_parts, not-true}
+use Rattle.std.proofs.lemmas.Bool.{false≢true, and_parts, not-true, false_from_ne_true}
 use lib.IntN.{*ℤ-zero}
 use Rattle.exact_plane.specs.Point.{Point}
 use Rattle.plane_graphs.specs.Graph.{Edge}
@@ -86,6 +86,13 @@ side-lower e = at_lower e.low.x e.low.y e.low.w e.high.x e.high.y e.high.w
 pub on_wall_parts : (v t : Point) → on_wall v t ≡ true → (left_of v t ≡ false) × (left_of t v ≡ false)
 on_wall_parts v t h =
     let a = and_parts (not (left_of v t)) (not (left_of t v)) h in (not-true (left_of v t) a.0, not-true (left_of t v) a.1)
+
+-- two points on the wall of t are on one wall
+pub level_walls : (a b t : Point) → HasWeight a → HasWeight b → HasWeight t → on_wall a t ≡ true → on_wall b t ≡ true → (left_of a b ≡ false) × (left_of b a ≡ false)
+level_walls a b t A B T x y =
+    let p = on_wall_parts a t x in
+    let q = on_wall_parts b t y in
+    (false_from_ne_true (left_of a b) (λ k. false≢true (sym q.1 ∙ left_of-after t a b T A B p.0 k)), false_from_ne_true (left_of b a) (λ k. false≢true (sym p.1 ∙ left_of-after t b a T B A q.0 k)))
 
 pub same_abscissa : (v t : Point) → left_of v t ≡ false → left_of t v ≡ false → t.x *ℤ v.w -ℤ v.x *ℤ t.w ≡ pos 0
 unfolding left_of

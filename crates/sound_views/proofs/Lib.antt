@@ -15,6 +15,7 @@ pub mod GraphDrawn
 pub mod DartCurves
 pub mod PulledOrders
 pub mod NameTables
+pub mod OnceFiltered
 pub mod NamedDarts
 pub mod NamesOrdered
 pub mod IsolatedVertices

@@ -22,7 +22,7 @@ use Rattle.edit_steps.proofs.Changes.{this, this_in, this_out}
 use Rattle.edit_steps.proofs.Edits.{run_append}
 use Rattle.edit_steps.proofs.Laws.{keeps_fit}
 use Rattle.edit_steps.proofs.StrandDrops.{drop_of_strands}
-use Rattle.edit_steps.proofs.StrandPaths.{path_of_strands}
+use Rattle.edit_steps.proofs.StrandPaths.{path_of_strands, strand_is_of}
 use Rattle.edit_steps.proofs.StrandSteps.{strands_follow}
 use Rattle.slab_laws.specs.declared.names.DartId.{DartId}
 use Rattle.slab_laws.specs.Sound.{IsGraphSound}
@@ -37,7 +37,7 @@ use Rattle.sound_changes.proofs.StepCases.{one_way}
 use Rattle.sound_changes.proofs.StepCurvesGo.{curves_go}
 use Rattle.sound_changes.proofs.StepHolds.{held_mark}
 use Rattle.curve_history.specs.Past.{Past, GainsCurve, LosesSides, SameCurves, SameStrands, curves_of, curves_on, strands_on}
-use Rattle.curve_history.proofs.Sides.{in_curves, strand_curve, strands_of_edges}
+use Rattle.curve_history.proofs.Sides.{in_curves, strands_of_edges}
 use Rattle.told_steps.specs.StrandRuns.{IsStrandRun, SidesGo, strand_graph, strand_steps}
 
 -- ---- steps
@@ -68,7 +68,7 @@ none_yet v p a d n = (strands_of_edges v p a).without_dart d n
 -- where a side of a curve runs, the curve does
 pub curve_along : (p : Past) (d : DartId) (c side : ℕ) → side ≤ 8 → Member (strand c side) (strands_on p d) → Member c (curves_on p d)
 unfolding curves_on
-curve_along p d c side l m = subst (λ k. Member k (curves_on p d)) (strand_curve c side l) (in_curves (strand c side) (strands_on p d) m)
+curve_along p d c side l m = subst (λ k. Member k (curves_on p d)) (strand_is_of c side l) (in_curves (strand c side) (strands_on p d) m)
 
 -- ---- a curve that runs along an edge already
 module _ (p q : Past) (d : DartId) (c : ℕ) (there : Member c (curves_on p d)) (gains : GainsCurve p q d c) where

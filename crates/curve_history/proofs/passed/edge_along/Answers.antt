@@ -3,7 +3,7 @@ use Rattle.std.proofs.lemmas.Bool.{false≢true}
 use Rattle.slab_laws.specs.View.{dart_id}
 use Rattle.curve_history.specs.DrawnRecords.{passes}
 use Rattle.curve_history.specs.HistoryInMemory.{Says}
-use Rattle.curve_history.proofs.Passing.{not_true}
+use Rattle.integers.proofs.Tests.{not_true}
 use Rattle.curve_history.proofs.Walking.{seek, seek_on, says_here, not_found, less_on, at_node_on}
 use Rattle.curve_history.proofs.passed.edge_along.Goals as goal
 

@@ -1,12 +1,13 @@
 use Rattle.std.proofs.Common.{◌≡◌, ◌+◌, ◌<◌, ℕ, false, List, length, get_or, arith, sym, ap, ◌∙◌, subst}
 use Rattle.std.specs.Prelude.{slice_set}
+use Rattle.std.proofs.lemmas.Bool.{not-false}
 use Rattle.std.proofs.lemmas.List.{length-set}
 use Rattle.plane_graphs.proofs.Lists.{not_out}
 use Rattle.plane_graphs.proofs.Sorting.{any_default}
 use Rattle.region_rings.specs.declared.spokes.Spoke.{Spoke}
 use Rattle.region_rings.specs.Spokes.{no_spoke, spoke_in}
 use Rattle.region_rings.specs.Nexts.{IsFirstAt, IsLinkFrom}
-use Rattle.region_rings.proofs.Rounds.{not_no, dart_in, out_kept, one_linked}
+use Rattle.region_rings.proofs.Rounds.{dart_in, out_kept, one_linked}
 use Rattle.region_rings.proofs.Blocked.{not_closed, if_error}
 use Rattle.region_rings.proofs.nexts.links_of.Goals as goal
 use Rattle.region_rings.proofs.nexts.links_of.Goals.{then-not-spoke+in_ok-next, else-not-spoke}
@@ -46,7 +47,7 @@ loop-place-preserved c =
             counted = ap length e ∙ inv.counted;
             first = first;
             each = subst (λ (xs : List ℕ). (i : ℕ) → i < n + 1 → (spoke_in ss i).is_out ≡ false → IsLinkFrom ss i (get_or xs (spoke_in ss i).dart 0)) (sym e)
-                (out_kept ds ss c.requires n l now inv.counted inv.each (ap (λ (s : Spoke). s.is_out) (sym is) ∙ not_no c.index-spokes-place.result.is_out w.if-not-spoke.false));
+                (out_kept ds ss c.requires n l now inv.counted inv.each (ap (λ (s : Spoke). s.is_out) (sym is) ∙ not-false c.index-spokes-place.result.is_out w.if-not-spoke.false));
           }
     ]
 

@@ -4,11 +4,12 @@ use Rattle.plane_graphs.specs.Ascending.{Member}
 use Rattle.linked_chains.specs.Chains.{HasKey}
 use Rattle.curve_history.specs.Past.{strands_on}
 use Rattle.curve_history.proofs.Histories.{sees, has_name, says_held, kept_on, layer_on, filled_more, held_more}
-use Rattle.curve_history.proofs.Sides.{strand_curve, gains, gains_as}
+use Rattle.edit_steps.proofs.StrandPaths.{strand_is_of}
+use Rattle.curve_history.proofs.Sides.{gains, gains_as}
 use Rattle.curve_history.proofs.history.History.hold.Goals as goal
 
 pub hold_pair-requires-clause-named : goal.hold_pair-requires-clause-named
-hold_pair-requires-clause-named c = subst (HasKey c.self.inside.by_curve) (sym (ap curve_of c.strand.ensures ∙ strand_curve c.args.curve.0 c.args.side c.requires.side)) (has_name _ _ (sees c.self.inside _ c.self.view_is) _ c.requires.named)
+hold_pair-requires-clause-named c = subst (HasKey c.self.inside.by_curve) (sym (ap curve_of c.strand.ensures ∙ strand_is_of c.args.curve.0 c.args.side c.requires.side)) (has_name _ _ (sees c.self.inside _ c.self.view_is) _ c.requires.named)
 
 pub hold_pair-requires-clause-new : goal.hold_pair-requires-clause-new
 hold_pair-requires-clause-new c s = c.requires.new (subst (λ z. Member z (strands_on c.args.self.now c.args.d)) c.strand.ensures (says_held _ _ (sees c.self.inside _ c.self.view_is) c.args.d _ s))

@@ -1,8 +1,9 @@
 use Rattle.std.proofs.Common.{refl, sym, ap, subst, ◌∙◌, IsTrue}
 use mathlib.Core.List.{mem-append_right}
 use Rattle.arr_notes.specs.Notes.{heard_after, held_after, left_after, FitsNote}
+use Rattle.plane_graphs.proofs.Lists.{not_none}
 use Rattle.observer_bus.specs.Rows.{row}
-use Rattle.observer_bus.proofs.Heard.{last_lost, last_told, last_untold, leave_lost, leaves_untold, lost_told, lost_untold, none_next, not_planned, same_one, stay_lost, told_last, told_lost, told_on, told_untold, untold_told}
+use Rattle.observer_bus.proofs.Heard.{last_lost, last_told, last_untold, leave_lost, leaves_untold, lost_told, lost_untold, none_next, same_one, stay_lost, told_last, told_lost, told_on, told_untold, untold_told}
 use Rattle.std.proofs.lemmas.Bool.{false≢true}
 use Rattle.observer_bus.proofs.seat.Seat.hear.Goals as goal
 
@@ -96,6 +97,6 @@ returns-in-NoMemory g c =
         name = refl;
         join = refl;
         tells = h.0 ∙ ap (λ b. (goal.Observer-dyn g b).tells b.1) same;
-        left = λ j. absurd (not_planned _ j c.requires.seated);
+        left = λ j. absurd (not_none _ j c.requires.seated);
       };
     }
