@@ -15,12 +15,13 @@ use curve_history::History;
 use dcel_records::{Records, Spot};
 use exact_plane::Segment;
 use no_memory::NoMemory;
+use piece_zone::PieceSource;
 use slab_laws::{DartId, Sequence};
 use std::alloc::Global;
 use std::marker::Brand;
 use std::sync::ledger::{Blank, Ledger};
 use work_steps::Steps;
-use zone_walk::{Meeting, ZonePlan, zone};
+use zone_walk::{Meeting, ZonePlan, zone_by};
 
 /// What a segment meets of an arrangement, from its lower to its upper end (Fogel, Halperin and Wein, the zone of a curve).
 #[derive(Drop)]
@@ -37,6 +38,7 @@ fn zone_counted<L: Ledger>(
     blank: Blank,
     alloc: Global,
     records: &Records,
+    history: &History,
     segment: &Segment,
     start: Spot,
 ) -> Result<ZonePlan, NoMemory>
@@ -44,13 +46,15 @@ fn zone_counted<L: Ledger>(
     requires parts { blank.parts ≡ L.parts }
     requires some { 0 < L.parts }
     requires map { IsSoundMap records.now }
+    requires layer { IsLayer records.now.graph history.now }
     requires start { IsSpotOf records.now.graph (tables_of records.now) segment.now.lower start }
     ensures { IfOk result (IsZoneOf records.now.graph (tables_of records.now) segment.now) }
 {
     // Each face lists its own cycles and isolated vertices.
     records.face_laws();
     let mut steps = Steps::<L>::new(blank);
-    zone(alloc, records, segment, start, &mut steps)
+    let pieces = PieceSource { records, history };
+    zone_by(alloc, records, segment, start, &pieces, &mut steps)
 }
 
 // The zone of a segment in the records, from where its lower end lies.
@@ -66,7 +70,7 @@ fn zone_in(
     ensures ends { AreEnds segment.now }
 {
     let start = spot_at(records, history, &segment.lower());
-    zone_counted::<Brand>(Blank::new(1), alloc, records, segment, start)
+    zone_counted::<Brand>(Blank::new(1), alloc, records, history, segment, start)
 }
 
 // Whether the spot is at a vertex or on an edge.

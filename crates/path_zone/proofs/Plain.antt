@@ -1,5 +1,5 @@
 -- Where two sides have an end in common, or one is beyond one side of the other's box, they cross nowhere but at a vertex of the zone.
-use Rattle.std.proofs.Common.{◌≡◌, ◌⊎◌, ◌||◌, Bool, true, false, ℤ, refl, sym, ap, ◌∙◌, subst, inl, inr, ⊎_elim, arith}
+use Rattle.std.proofs.Common.{◌≡◌, ◌⊎◌, ◌||◌, true, false, ℤ, refl, sym, ap, ◌∙◌, subst, inl, inr, ⊎_elim, arith}
 use Rattle.std.proofs.lemmas.Int.{ints, int_max_is, int_min_is}
 use Rattle.std.specs.Prelude.{int_lt}
 use Rattle.std.specs.Int.{int_min, int_max}
@@ -14,7 +14,7 @@ use Rattle.exact_plane.specs.declared.whole_parts.BoundingBox.{BoundingBox}
 use Rattle.exact_plane.proofs.Orders.{at_most_itself}
 use Rattle.exact_plane.proofs.WholeOrders.{IsAlong, boxed}
 use Rattle.plane_graphs.specs.Ascending.{Member}
-use Rattle.plane_graphs.proofs.Lists.{and_in}
+use Rattle.plane_graphs.proofs.Lists.{and_in, or_right}
 use Rattle.plane_graphs.specs.Line.{IsProper}
 use Rattle.slab_laws.specs.View.{View, Faces}
 use Rattle.zone_walk.specs.Zone.{is_on_segment, meeting_points}
@@ -43,10 +43,6 @@ corner s t e =
     first : (p : Point) → (point_eq s.lower p || point_eq s.upper p) ≡ true → (p ≡ s.lower) ⊎ (p ≡ s.upper)
     first p h = ⊎_elim (λ k. inl (sym (one_point s.lower p k))) (λ k. inr (sym (one_point s.upper p k))) (or_out (point_eq s.lower p) (point_eq s.upper p) h)
 
-or_in : (a b : Bool) → b ≡ true → a || b ≡ true
-or_in true b h = refl
-or_in false b h = h
-
 -- what is beyond one end of a range lies there with all that is no greater, or no less
 both_beyond : (a b least greatest : ℤ) → are_beyond (int_min a b) (int_max a b) least greatest ≡ true → are_beyond a b least greatest ≡ true
 both_beyond a b least greatest e = ⊎_elim below above (or_out (are_less (int_min a b) (int_max a b) least) (are_greater (int_min a b) (int_max a b) greatest) e)
@@ -59,7 +55,7 @@ both_beyond a b least greatest e = ⊎_elim below above (or_out (are_less (int_m
     above : are_greater (int_min a b) (int_max a b) greatest ≡ true → are_beyond a b least greatest ≡ true
     above h =
         let m = lt_out greatest (int_min a b) (both (int_lt greatest (int_min a b)) (int_lt greatest (int_max a b)) h).0 in
-        or_in (are_less a b least) (are_greater a b greatest) (and_in (lt_in greatest a (omega (arith, ints, int_min_is a b, m))) (lt_in greatest b (omega (arith, ints, int_min_is a b, m))))
+        or_right (are_less a b least) (are_greater a b greatest) (and_in (lt_in greatest a (omega (arith, ints, int_min_is a b, m))) (lt_in greatest b (omega (arith, ints, int_min_is a b, m))))
 
 -- where the box of a span is beyond one side of a box, both its ends are
 ends_beyond : (k : BoundingBox) (s : Span) → excludes k (bounding_box s).least (bounding_box s).greatest ≡ true → excludes k (whole_parts s.lower) (whole_parts s.upper) ≡ true
@@ -68,7 +64,7 @@ ends_beyond k s e =
     let b = whole_parts s.upper in
     ⊎_elim
     (λ h. ap (λ z. z || excludes_along k a b) h)
-    (λ h. or_in (excludes_across k a b) (excludes_along k a b) (both_beyond a.y b.y k.least.y k.greatest.y h))
+    (λ h. or_right (excludes_across k a b) (excludes_along k a b) (both_beyond a.y b.y k.least.y k.greatest.y h))
     (or_out (excludes_across k a b) (excludes_along k (bounding_box s).least (bounding_box s).greatest) e)
 
 -- a point of a side is one of the part of its line

@@ -13,5 +13,5 @@ mod plan;
 mod zoned;
 
 pub use order::is_begun;
-pub use path::path_zone;
+pub use path::{path_zone, path_zone_by};
 pub use plan::PathPlan;

@@ -21,7 +21,7 @@ use std::alloc::Global;
 use std::cmp::Ordering;
 use std::sync::ledger::Ledger;
 use work_steps::Steps;
-use zone_walk::{Meeting, ZonePlan, zone};
+use zone_walk::{Meeting, MeetingSource, NoSource, ZonePlan, zone_by};
 
 // Where a side begins, by the zones of others, or else by its own start.
 fn start_for(zones: &[ZonedSide], begun: &BegunSide) -> Spot
@@ -35,14 +35,16 @@ fn start_for(zones: &[ZonedSide], begun: &BegunSide) -> Spot
 }
 
 // The zone of a side, from where it begins.
-fn zone_of<L: Ledger>(
+fn zone_of<M: MeetingSource, L: Ledger>(
     alloc: Global,
     records: &Records,
+    source: &M,
     zones: &[ZonedSide],
     begun: &BegunSide,
     steps: &mut Steps<L>,
 ) -> Result<ZonePlan, NoMemory>
     requires map { IsSoundMap records.now }
+    requires source { M.knows source.now records.now.graph }
     requires zones { AreZonedSides records.now.graph (tables_of records.now) zones.now }
     requires start { IsSpotOf records.now.graph (tables_of records.now) begun.now.side.lower begun.now.start ⊎ IsOnOne zones.now begun.now.side.lower }
     ensures zone { IfOk result (IsZoneOf records.now.graph (tables_of records.now) begun.now.side) }
@@ -50,19 +52,28 @@ fn zone_of<L: Ledger>(
 {
     // Each face lists its own cycles and isolated vertices.
     records.face_laws();
-    zone(alloc, records, &begun.side, start_for(zones, begun), steps)
+    zone_by(
+        alloc,
+        records,
+        &begun.side,
+        start_for(zones, begun),
+        source,
+        steps,
+    )
 }
 
 // Adds what is found along one more side. One that runs along a side with a zone gets none of its own.
-fn add_side<L: Ledger>(
+fn add_side<M: MeetingSource, L: Ledger>(
     alloc: Global,
     zones: &mut Vec<ZonedSide>,
     meetings: &mut Vec<Meeting>,
     records: &Records,
+    source: &M,
     begun: &BegunSide,
     steps: &mut Steps<L>,
 ) -> Result<(), NoMemory>
     requires map { IsSoundMap records.now }
+    requires source { M.knows source.now records.now.graph }
     requires zones { AreZonedSides records.now.graph (tables_of records.now) zones.old.items }
     requires start { IsSpotOf records.now.graph (tables_of records.now) begun.now.side.lower begun.now.start ⊎ IsOnOne zones.old.items begun.now.side.lower }
     ensures side { OnOk result (HasSide records.now.graph (tables_of records.now) begun.now.side zones.old.items meetings.old.items zones.new.items meetings.new.items) }
@@ -72,7 +83,7 @@ fn add_side<L: Ledger>(
         add_ends(meetings, &zones[place], &begun.side)?;
         return Ok(());
     }
-    let plan = zone_of(alloc, records, &*zones, begun, steps)?;
+    let plan = zone_of(alloc, records, source, &*zones, begun, steps)?;
     let zoned = ZonedSide::new(&begun.side, plan);
     add_crossings(meetings, &zoned, &*zones)?;
     zones.push(zoned)?;
@@ -90,14 +101,16 @@ fn add_vertices(meetings: &mut Vec<Meeting>, zones: &[ZonedSide]) -> Result<(), 
 }
 
 // The meetings of the sides with the graph and with one another, some of them several times.
-fn all_meetings<L: Ledger>(
+fn all_meetings<M: MeetingSource, L: Ledger>(
     alloc: Global,
     records: &Records,
     sides: &[Segment],
     starts: &[Spot],
+    source: &M,
     steps: &mut Steps<L>,
 ) -> Result<Vec<Meeting>, NoMemory>
     requires map { IsSoundMap records.now }
+    requires source { M.knows source.now records.now.graph }
     requires starts { AreStarts records.now.graph (tables_of records.now) sides.now starts.now }
     ensures more { IfOk result (λ ms. HasMore records.now.graph (tables_of records.now) sides.now [] ms.items) }
     ensures each { IfOk result (λ ms. (s : _) (x : _) → Member s sides.now → Member x (meeting_points records.now.graph s) → HasPoint ms.items x) }
@@ -108,7 +121,15 @@ fn all_meetings<L: Ledger>(
     let mut zones = Vec::with_capacity(alloc, begun.len())?;
     let mut meetings = Vec::new(alloc);
     'sides: for one in &begun {
-        add_side(alloc, &mut zones, &mut meetings, records, one, steps)?;
+        add_side(
+            alloc,
+            &mut zones,
+            &mut meetings,
+            records,
+            source,
+            one,
+            steps,
+        )?;
     }
     add_vertices(&mut meetings, &zones)?;
     Ok(meetings)
@@ -136,6 +157,31 @@ fn in_order(meetings: &mut Vec<Meeting>)
     meetings.dedup_by(|next, last| share_point(next, last));
 }
 
+/// The zone of a path, as [`path_zone`] tells it, with a source of meeting points beside, which is asked as for the zone of a segment
+/// ([`zone_by`](zone_walk::zone_by)).
+///
+/// # Errors
+///
+/// There was no memory for the plan.
+pub fn path_zone_by<M: MeetingSource, L: Ledger>(
+    alloc: Global,
+    records: &Records,
+    sides: &[Segment],
+    starts: &[Spot],
+    source: &M,
+    steps: &mut Steps<L>,
+) -> Result<PathPlan, NoMemory>
+    requires map { IsSoundMap records.now }
+    requires source { M.knows source.now records.now.graph }
+    requires starts { AreStarts records.now.graph (tables_of records.now) sides.now starts.now }
+    ensures zone { IfOk result (IsPathZone records.now.graph (tables_of records.now) sides.now) }
+    ensures looks { (n : _) → CoverAllVisits records.now.graph (tables_of records.now) sides.now n → steps.new ≤ steps.old + (n + sum_by (looks_along records.now.graph) sides.now) }
+{
+    let mut meetings = all_meetings(alloc, records, sides, starts, source, steps)?;
+    in_order(&mut meetings);
+    Ok(PathPlan { meetings })
+}
+
 /// The zone of a path: the points where its sides meet the graph or one another, ascending and each once, with their spots before
 /// the insertion. It changes nothing.
 ///
@@ -158,7 +204,5 @@ pub fn path_zone<L: Ledger>(
     ensures zone { IfOk result (IsPathZone records.now.graph (tables_of records.now) sides.now) }
     ensures looks { (n : _) → CoverAllVisits records.now.graph (tables_of records.now) sides.now n → steps.new ≤ steps.old + (n + sum_by (looks_along records.now.graph) sides.now) }
 {
-    let mut meetings = all_meetings(alloc, records, sides, starts, steps)?;
-    in_order(&mut meetings);
-    Ok(PathPlan { meetings })
+    path_zone_by(alloc, records, sides, starts, &NoSource, steps)
 }

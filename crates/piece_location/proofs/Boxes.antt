@@ -3,7 +3,7 @@ use Rattle.std.proofs.Common.{◌≡◌, ℤ, pos, ◌<ℤ◌, true, false, not,
 use Rattle.std.specs.Prelude.{ℕ, negsuc, ◌≤ℤ◌, int_lt}
 use Rattle.std.specs.Int.{int_max, int_min}
 use Rattle.std.proofs.lemmas.Int.{ints, by_lt_z, int_max_is, int_min_is}
-use Rattle.integers.proofs.Decisions.{lt_out}
+use Rattle.integers.proofs.Decisions.{ge_in, lt_out}
 use Rattle.integers.proofs.Tests.{not_true}
 use Rattle.exact_plane.specs.Boxes.{ray_below}
 use Rattle.exact_plane.specs.Line.{side_of}
@@ -35,9 +35,6 @@ not_less_min x y z f = not_true (int_lt z (int_min x y)) (λ h. let k = lt_out z
 
 not_less_min_both : (x y z : ℤ) → (z <ℤ x → z <ℤ y → ⊥) → int_lt z (int_min x y) ≡ false
 not_less_min_both x y z f = not_true (int_lt z (int_min x y)) (λ h. let k = lt_out z (int_min x y) h in f (omega (arith, ints, int_min_is x y)) (omega (arith, ints, int_min_is x y)))
-
-not_less_than : (x z : ℤ) → z ≤ℤ x → int_lt x z ≡ false
-not_less_than x z h = not_true (int_lt x z) (λ k. let l = lt_out x z k in absurd (omega (arith, ints)))
 
 module _ (q : Point) (Q : IsProper q) (k : Piece) (f : IsFitPiece k) (s : IsSpanned q k) where
   on : IsOnLine (line_of k) (ends_of k)
@@ -73,6 +70,6 @@ met_row q Q r f s w low =
     let k = piece_of r.1 in
     let a = right q Q k f s in
     let b = left q Q k f s in
-    let c = not_less_than (entry_of r).bounds.greatest.y (negsuc 2147483647) low in
+    let c = ge_in (entry_of r).bounds.greatest.y (negsuc 2147483647) low in
     let d = above q Q k f s w in
     λ i. not ((a i || b i) || (c i || d i))

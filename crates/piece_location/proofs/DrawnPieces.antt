@@ -25,11 +25,11 @@ use Rattle.piece_location.specs.Heights.{ends_of, line_of, IsOnLine}
 use Rattle.piece_location.proofs.Covers.{edge_held, held_between, on_each, piece_covered}
 
 module _ (v : View) (h : Curves) (p : Present) (drawn : IsDrawnFrom v h p) where
-  points_are : (drawn_graph v h).points ≡ vertices p
+  pub points_are : (drawn_graph v h).points ≡ vertices p
   unfolding graph
   points_are = ap (λ g. g.points) drawn.stands
 
-  marks_are : (drawn_graph v h).marks ≡ marks (vertices p) p.pieces
+  pub marks_are : (drawn_graph v h).marks ≡ marks (vertices p) p.pieces
   unfolding graph
   marks_are = ap (λ g. g.marks) drawn.stands
 
@@ -39,21 +39,21 @@ module _ (v : View) (h : Curves) (p : Present) (drawn : IsDrawnFrom v h p) where
   abbrev high : DartId → Point
   high d = point_in v (target_in v d)
 
-  low_proper : (d : DartId) → HasDart v d → IsProper (low d)
+  pub low_proper : (d : DartId) → HasDart v d → IsProper (low d)
   low_proper d has = drawn.sound.drawn.proper _ (drawn.sound.linked.source d has)
 
-  high_proper : (d : DartId) → HasDart v d → IsProper (high d)
+  pub high_proper : (d : DartId) → HasDart v d → IsProper (high d)
   high_proper d has = drawn.sound.drawn.proper _ (target_has v drawn.sound d has)
 
   -- a curve's mark along a forward dart is one of the present's
-  mark_there : (d : DartId) (c : _) → IsForward v d → Member c (h d) → Member (mark (low d) (high d) c) (marks (vertices p) p.pieces)
+  pub mark_there : (d : DartId) (c : _) → IsForward v d → Member c (h d) → Member (mark (low d) (high d) c) (marks (vertices p) p.pieces)
   mark_there d c f m = subst (Member (mark (low d) (high d) c)) marks_are (((graphs_hold v h drawn.sound).marks (mark (low d) (high d) c)).1 (d, record { forward = f; low = refl; high = refl; curve = m }))
 
-  edge_ahead : (d : DartId) → IsForward v d → edge_in v d ≡ record { low = low d; high = high d }
+  pub edge_ahead : (d : DartId) → IsForward v d → edge_in v d ≡ record { low = low d; high = high d }
   edge_ahead d f = between_forward (low d) (high d) f.1
 
   -- one of the two darts along an edge goes forward
-  forward_of : (d : DartId) → HasDart v d → (r : DartId) × IsForwardOf v d r
+  pub forward_of : (d : DartId) → HasDart v d → (r : DartId) × IsForwardOf v d r
   forward_of d has = ⊎_elim (λ f. (d, is_ahead v drawn.sound d has f)) (λ f. (twin_in v d, is_behind v drawn.sound d has f (twin_in v d) refl)) (decide (is_forward v d))
 
   -- the edges of a piece's curve are on the piece's line

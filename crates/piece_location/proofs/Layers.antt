@@ -1,11 +1,10 @@
 -- Records and history of a layer, a look down among its pieces, and where a point lies that is at no vertex.
-use Rattle.std.proofs.Common.{◌≡◌, ◌≢◌, ℕ, pos, List, [], ◌∷◌, true, false, arith, refl, sym, ap, ◌∙◌, inl, inr, subst}
+use Rattle.std.proofs.Common.{◌≡◌, ◌≢◌, ℕ, pos, [], true, false, arith, refl, sym, ap, ◌∙◌, subst}
 use Rattle.std.specs.Prelude.{ℤ, negsuc, ◌≤ℤ◌, ◌==◌, map, Option, Some, None, IfSome, Contains}
-use Rattle.std.specs.List.{IsDistinct, AllByRecursion}
+use Rattle.std.specs.List.{IsDistinct}
 use Rattle.std.specs.Int.{int_max, int_min}
-use Rattle.std.proofs.lemmas.Int.{ints, int_max_is, int_min_is}
+use Rattle.std.proofs.lemmas.Int.{ints, by_lt_z, int_max_is, int_min_is}
 use Rattle.std.proofs.lemmas.List.Elements.{All-contains, All-contains_itself, All-weaker}
-use Rattle.integers.proofs.Tests.{same_number}
 use Rattle.exact_plane.specs.Boxes.{ray_below}
 use Rattle.exact_plane.specs.Line.{side_of}
 use Rattle.exact_plane.specs.Point.{Point}
@@ -15,8 +14,8 @@ use Rattle.plane_graphs.specs.Ascending.{Member, ascending}
 use Rattle.plane_graphs.specs.Line.{IsProper}
 use Rattle.plane_graphs.specs.Piece.{Piece}
 use Rattle.plane_graphs.specs.Strands.{strand_piece, strands}
-use Rattle.plane_graphs.proofs.Ascending.{All-member, from_member, to_member}
-use Rattle.plane_graphs.proofs.Lists.{clash, in_map, of_map}
+use Rattle.plane_graphs.proofs.Ascending.{from_member, to_member}
+use Rattle.plane_graphs.proofs.Lists.{in_map, of_map}
 use Rattle.plane_graphs.proofs.Strands.{strands_fit, strands_one_side}
 use Rattle.slab_laws.specs.declared.names.DartId.{DartId}
 use Rattle.slab_laws.specs.declared.names.VertexId.{VertexId}
@@ -28,7 +27,6 @@ use Rattle.sound_views.proofs.GraphDrawn.{twins_are_directed}
 use Rattle.dcel_records.specs.declared.spot.Met.TheVariants.{Edge as InEdge}
 use Rattle.dcel_records.specs.Spots.{IsInFace, IsMet}
 use Rattle.face_location.specs.Below.{IsHighestDart}
-use Rattle.box_tree.specs.declared.entry.Entry.{Entry}
 use Rattle.box_tree.specs.Entries.{is_met, AllAbove, AreKnown, AreSeen}
 use Rattle.curve_pieces.specs.PieceRows.{entries_of, entry_of}
 use Rattle.curve_history.specs.Cuts.{modelled}
@@ -40,26 +38,13 @@ use Rattle.piece_location.specs.Drawn.{IsAlongPiece, IsDrawnFrom}
 use Rattle.piece_location.specs.Found.{IsOffPieces}
 use Rattle.piece_location.specs.Heights.{is_higher, line_of, IsPieceSeen, IsPieceThrough, IsSpanned}
 use Rattle.piece_location.specs.Layers.{present_of, IsBestOf, IsEdgeOfName, IsLookedDown, IsPastOf}
-use Rattle.piece_location.specs.Looks.{AreFitRows, HasSeen, IsBelowIn, IsCleared, IsPassedBy, IsPieceNamed, Knows, MayVisit}
+use Rattle.piece_location.specs.Looks.{AreFitRows, HasSeen, IsBelowIn, IsCleared, IsFloor, IsPassedBy, IsPieceNamed, Knows, MayVisit}
 use Rattle.piece_location.proofs.Boxes.{met_row}
 use Rattle.piece_location.proofs.DrawnPieces.{piece_has_edge}
 use Rattle.piece_location.proofs.Located.{highest_dart, in_face, through_edge}
+use Rattle.piece_location.proofs.Rows.{same_row}
 
 -- ---- rows
-other : (r : ℕ × PieceInMemory) (rs : List (ℕ × PieceInMemory)) (n : ℕ) (b : PieceInMemory) → AllByRecursion (λ m. (r.0 == m) ≡ false) (names rs) → n ≡ r.0 → Member (n, b) rs → ⊥
-other r rs n b all e y =
-    let k = All-member (λ m. (r.0 == m) ≡ false) n (names rs) all (in_map (λ (z : ℕ × PieceInMemory). z.0) (n, b) rs y) in
-    clash (same_number r.0) (subst (λ m. (r.0 == m) ≡ false) e k)
-
--- a name has one row
-pub same_row : (rs : List (ℕ × PieceInMemory)) (n : ℕ) (a b : PieceInMemory) → IsDistinct ◌==◌ (names rs) → Member (n, a) rs → Member (n, b) rs → a ≡ b
-unfolding IsDistinct
-same_row [] n a b d x y = absurd x
-same_row (r ∷ rs) n a b d (inl e) (inl f) = ap (λ z. z.1) (e ∙ sym f)
-same_row (r ∷ rs) n a b d (inl e) (inr y) = absurd (other r rs n b d.0 (ap (λ z. z.0) e) y)
-same_row (r ∷ rs) n a b d (inr x) (inl f) = absurd (other r rs n a d.0 (ap (λ z. z.0) f) x)
-same_row (r ∷ rs) n a b d (inr x) (inr y) = same_row rs n a b d.1 x y
-
 module _ (p : Past) (is : p.pieces ≡ modelled p.rows) where
   pub row_piece : (r : ℕ × PieceInMemory) → Member r p.rows → Member (piece_of r.1) p.pieces
   row_piece r m = subst (Member (piece_of r.1)) (sym is) (in_map piece_of r.1 (map (λ (z : ℕ × PieceInMemory). z.1) p.rows) (in_map (λ (z : ℕ × PieceInMemory). z.1) r p.rows m))
@@ -98,13 +83,13 @@ module _ (v : View) (p : Past) (w : IsPastOf v p) (is : p.pieces ≡ modelled p.
   pub fit_rows : AreFitRows p
   fit_rows r m = w.fit.piece (piece_of r.1) (row_piece p is r m)
 
-  drawn : IsDrawnFrom v (strands_on p) (strands (present_of v p))
+  pub drawn : IsDrawnFrom v (strands_on p) (strands (present_of v p))
   drawn = record { sound = w.sound; some = λ d f e. w.curves.some d f (none_along d e); fit = strands_fit (present_of v p) w.fit; one_side = strands_one_side (present_of v p) w.fit; stands = w.strands }
 
-  side_in : (r : ℕ × PieceInMemory) → Member r p.rows → Member (strand_piece (piece_of r.1)) (strands (present_of v p)).pieces
+  pub side_in : (r : ℕ × PieceInMemory) → Member r p.rows → Member (strand_piece (piece_of r.1)) (strands (present_of v p)).pieces
   side_in r m = in_map strand_piece (piece_of r.1) p.pieces (row_piece p is r m)
 
-  side_out : (k : Piece) → Member k (strands (present_of v p)).pieces → (r : ℕ × PieceInMemory) × Member r p.rows × (k ≡ strand_piece (piece_of r.1))
+  pub side_out : (k : Piece) → Member k (strands (present_of v p)).pieces → (r : ℕ × PieceInMemory) × Member r p.rows × (k ≡ strand_piece (piece_of r.1))
   side_out k m =
       let a = of_map strand_piece k p.pieces m in
       let b = piece_row p is a.0 a.1 in
@@ -165,14 +150,16 @@ least_first x y z h = omega (arith, ints, h, int_min_is x y, int_max_is x y)
 
 pub first_known : (k : Highest) (p : Past) (area : BoundingBox) → k.history.now ≡ p → AreKnown (Knows k) area (entries_of p.rows)
 first_known k p area e =
-    All-weaker (Contains (entries_of p.rows)) (λ x. is_met area x ≡ true → Member x.name (names k.history.now.rows))
-    (λ x c met.
-    let r = of_map entry_of x p.rows (to_member (entries_of p.rows) x c) in
-    subst (λ (z : Past). Member x.name (names z.rows)) (sym e) (subst (λ n. Member n (names p.rows)) (sym (ap (λ (z : Entry). z.name) r.2)) (in_map (λ (z : ℕ × PieceInMemory). z.0) r.0 p.rows r.1)))
+    All-weaker (Contains (entries_of p.rows)) (λ x. is_met area x ≡ true → Knows k x)
+    (λ x c met. subst (λ (z : Past). Member x (entries_of z.rows)) (sym e) (to_member (entries_of p.rows) x c))
     (entries_of p.rows) (All-contains_itself (entries_of p.rows))
 
+-- no box is below the least number
+pub lowest_floor : (l : Highest) → l.floor ≡ negsuc 2147483647 → IsFloor l
+lowest_floor l e = λ m f s low b. absurd (omega (arith, ints))
+
 module _ (p : Past) (q : Point) (Q : IsProper q) (once : IsDistinct ◌==◌ (names p.rows)) (fit : AreFitRows p) (low : AllAbove (negsuc 2147483647) (entries_of p.rows)) (l : Highest) (history : l.history.now ≡ p) (point : l.point ≡ q)
-    (seen : AreSeen (HasSeen l) (ray_below (whole_parts q)) (negsuc 2147483647) (entries_of p.rows)) (own : l.through ≡ None) where
+    (seen : AreSeen (HasSeen l) (ray_below (whole_parts q)) l.floor (entries_of p.rows)) (own : l.through ≡ None) (under : IsFloor l) where
   low_row : (r : ℕ × PieceInMemory) → Member r p.rows → negsuc 2147483647 ≤ℤ (entry_of r).bounds.least.y
   low_row r m = All-contains (λ e. negsuc 2147483647 ≤ℤ e.bounds.least.y) (entries_of p.rows) (entry_of r) low (from_member (entries_of p.rows) (entry_of r) (in_map entry_of r p.rows m))
 
@@ -181,8 +168,11 @@ module _ (p : Past) (q : Point) (Q : IsProper q) (once : IsDistinct ◌==◌ (na
   cleared r m s w =
       let up = least_first (whole_parts r.1.from).y (whole_parts r.1.to).y (negsuc 2147483647) (low_row r m) in
       let met = met_row q Q r (fit r m) s w up in
-      let c = All-contains (λ e. is_met (ray_below (whole_parts q)) e ≡ true → negsuc 2147483647 ≤ℤ e.bounds.greatest.y → HasSeen l e) (entries_of p.rows) (entry_of r) seen (from_member (entries_of p.rows) (entry_of r) (in_map entry_of r p.rows m)) met up own in
-      subst (λ k. IsCleared l (piece_of k)) (same_row p.rows r.0 c.0 r.1 once (subst (λ (z : Past). Member (r.0, c.0) z.rows) history c.1) m) c.2
+      by_lt_z (entry_of r).bounds.greatest.y l.floor
+      (λ b. under (piece_of r.1) (fit r m) (subst (λ x. IsSpanned x (piece_of r.1)) (sym point) s) up b)
+      (λ b.
+      let c = All-contains (λ e. is_met (ray_below (whole_parts q)) e ≡ true → l.floor ≤ℤ e.bounds.greatest.y → HasSeen l e) (entries_of p.rows) (entry_of r) seen (from_member (entries_of p.rows) (entry_of r) (in_map entry_of r p.rows m)) met b own in
+      subst (λ k. IsCleared l (piece_of k)) (same_row p.rows r.0 c.0 r.1 once (subst (λ (z : Past). Member (r.0, c.0) z.rows) history c.1) m) c.2)
 
   off : (r : ℕ × PieceInMemory) → Member r p.rows → IsPieceThrough q (piece_of r.1) → ⊥
   off r m t = let z = t.on_line in (cleared r m t.spanning (omega (arith, ints))).off (subst (λ x. IsPieceThrough x (piece_of r.1)) (sym point) t)
@@ -194,7 +184,7 @@ module _ (p : Past) (q : Point) (Q : IsProper q) (once : IsDistinct ◌==◌ (na
   passed : (r : ℕ × PieceInMemory) → Member r p.rows → IsPassedBy q l.best (piece_of r.1)
   passed r m = passed_by l.best (piece_of r.1) (λ s. let z = s.over_line in subst (λ x. IsPassedBy x l.best (piece_of r.1)) point (cleared r m s.spanning (omega (arith, ints))).passed)
 
-pub looked_down : (k l : Highest) (p : Past) (q : Point) → IsProper q → IsDistinct ◌==◌ (names p.rows) → AreFitRows p → AllAbove (negsuc 2147483647) (entries_of p.rows) → k.history.now ≡ p → k.point ≡ q → MayVisit k l → AreSeen (HasSeen l) (ray_below (whole_parts q)) (negsuc 2147483647) (entries_of p.rows) → IsLookedDown p q l
+pub looked_down : (k l : Highest) (p : Past) (q : Point) → IsProper q → IsDistinct ◌==◌ (names p.rows) → AreFitRows p → AllAbove (negsuc 2147483647) (entries_of p.rows) → k.history.now ≡ p → k.point ≡ q → MayVisit k l → AreSeen (HasSeen l) (ray_below (whole_parts q)) l.floor (entries_of p.rows) → IsLookedDown p q l
 looked_down k l p q Q once fit low a b m seen =
     let history = m.history ∙ a in
     let point = m.point ∙ b in
@@ -202,7 +192,7 @@ looked_down k l p q Q once fit low a b m seen =
       through = subst (λ (z : Past). IfSome l.through (IsPieceNamed z (IsPieceThrough q))) history (subst (λ x. IfSome l.through (IsPieceNamed l.history.now (IsPieceThrough x))) point m.through);
       best = λ own. record {
         found = subst (λ (z : Past). IfSome l.best (IsBelowIn z q)) history (subst (λ x. IfSome l.best (IsBelowIn l.history.now x)) point m.best);
-        off = off p q Q once fit low l history point seen own;
-        passed = passed p q Q once fit low l history point seen own;
+        off = off p q Q once fit low l history point seen own (m.floor own);
+        passed = passed p q Q once fit low l history point seen own (m.floor own);
       };
     }

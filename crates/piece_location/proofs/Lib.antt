@@ -6,3 +6,5 @@ pub mod Located
 pub mod Boxes
 pub mod Looking
 pub mod Layers
+pub mod Lower
+pub mod Rows

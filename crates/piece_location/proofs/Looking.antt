@@ -1,27 +1,32 @@
 -- What looks at pieces keep, and what they find.
-use Rattle.std.proofs.Common.{◌≡◌, ℕ, pos, ◌<ℤ◌, true, false, cond, arith, refl, sym, ap, ◌∙◌, ◌⊎◌, inl, inr, subst, Ordering, Less, Equal, Greater}
-use Rattle.std.specs.Prelude.{Option, Some, None, IfSome, IsSome}
+use Rattle.std.proofs.Common.{◌≡◌, ℕ, ℤ, pos, ◌<ℤ◌, ◌≤ℤ◌, List, true, false, cond, arith, refl, sym, ap, ◌∙◌, ◌⊎◌, inl, inr, subst, Ordering, Less, Equal, Greater}
+use Rattle.std.specs.Prelude.{◌==◌, Option, Some, None, IfSome, IsSome}
+use Rattle.std.specs.List.{IsDistinct}
+use Rattle.std.specs.Int.{int_max}
 use Rattle.std.specs.Cmp.{IsTotalOrder, tied_itself}
 use Rattle.std.specs.Ordering.{is_gt, ordering_reverse}
-use Rattle.std.proofs.lemmas.Bool.{cases_Bool, false≢true}
-use Rattle.std.proofs.lemmas.Int.{ints}
+use Rattle.std.proofs.lemmas.Bool.{cases_Bool}
+use Rattle.std.proofs.lemmas.Int.{ints, by_lt_z, int_max_is}
 use Rattle.integers.proofs.Tests.{not_true}
 use Rattle.exact_plane.specs.Line.{Line}
 use Rattle.exact_plane.specs.Point.{Point, IsPoint}
+use Rattle.exact_plane.specs.declared.whole_parts.BoundingBox.{BoundingBox}
 use Rattle.plane_graphs.specs.Ascending.{Member}
 use Rattle.plane_graphs.specs.Fit.{IsFitPiece}
 use Rattle.plane_graphs.specs.Line.{IsProper}
 use Rattle.plane_graphs.specs.Piece.{Piece}
 use Rattle.plane_graphs.proofs.Lines.{along_out, point_is_proper, segment_runs}
-use Rattle.plane_graphs.proofs.Lists.{clash}
+use Rattle.plane_graphs.proofs.Lists.{clash, in_map, not_none, of_map}
 use Rattle.plane_graphs.proofs.Order.{lt_out}
 use Rattle.plane_graphs.proofs.Vertices.{proper_piece}
 use Rattle.slab_laws.specs.declared.present.Piece.{Piece as PieceInMemory}
 use Rattle.slab_laws.specs.Pieces.{piece_of}
+use Rattle.slab_laws.specs.Tables.{names}
 use Rattle.slab_faces.proofs.InnerPoints.{before_in}
 use Rattle.slab_faces.proofs.Walls.{run_positive}
 use Rattle.edge_predicates.proofs.Seen.{slanted}
 use Rattle.box_tree.specs.declared.entry.Entry.{Entry}
+use Rattle.curve_pieces.specs.PieceRows.{entries_of, entry_of}
 use Rattle.curve_history.specs.Past.{Past}
 use Rattle.piece_location.specs.declared.highest.Highest.{Highest}
 use Rattle.piece_location.specs.declared.highest.PieceBelow.{PieceBelow}
@@ -29,7 +34,9 @@ use Rattle.piece_location.specs.declared.lies.Lie.{Lie}
 use Rattle.piece_location.specs.declared.lies.Lie.TheVariants.{Below, Through, Apart}
 use Rattle.piece_location.specs.Heights.{ends_of, line_of, is_higher, IsOnLine, IsPieceSeen, IsPieceThrough}
 use Rattle.piece_location.specs.Lies.{IsLie}
-use Rattle.piece_location.specs.Looks.{higher_piece, taken, AreFitRows, HasSeen, IsBelowIn, IsCleared, IsLooked, IsPassedBy, IsPieceNamed, IsReady, MayVisit}
+use Rattle.piece_location.specs.Looks.{box_of, higher_piece, taken, AreFitRows, HasSeen, IsBelowIn, IsFloor, IsLooked, IsPassedBy, IsReady, MayVisit}
+use Rattle.piece_location.proofs.Lower.{lower_not_higher, lower_off}
+use Rattle.piece_location.proofs.Rows.{same_row}
 use Rattle.piece_location.proofs.OnLines.{leant_total, line_slanted, zero_on_line}
 
 -- ---- the line of a piece that a point sees isn't vertical
@@ -70,6 +77,19 @@ module _ {K : Type 0} {R : K → K → Ordering} (o : IsTotalOrder R) where
       let xy : R x y ≡ Greater = o.antisymm x y ∙ ap ordering_reverse (o.trans y z x yz zx) in
       clash (ap is_gt xy) h)
 
+  -- what isn't over another isn't over what that one isn't over
+  not_over_trans : (x y z : K) → is_gt (R x y) ≡ false → is_gt (R y z) ≡ false → is_gt (R x z) ≡ false
+  not_over_trans x y z h k = at (R x y) refl
+    where
+      at : (p : Ordering) → R x y ≡ p → is_gt (R x z) ≡ false
+      at Less e =
+          not_true (is_gt (R x z)) (λ g.
+          let zx : R z x ≡ Less = o.antisymm z x ∙ ap ordering_reverse (greater_is (R x z) g) in
+          let yz : R y z ≡ Greater = o.antisymm y z ∙ ap ordering_reverse (o.trans z x y zx e) in
+          clash (ap is_gt yz) k)
+      at Equal e = ap is_gt (o.congr x y z e) ∙ k
+      at Greater e = clash (ap is_gt e) h
+
 -- ---- the highest so far and one more
 module _ (q : Point) (b : PieceBelow) where
   best_kept : (p : Past) (o : Option PieceBelow) → IfSome o (IsBelowIn p q) → IsBelowIn p q b → IsBelowIn p q (higher_piece q o b)
@@ -103,49 +123,79 @@ passed_unseen q (Some b) k f = λ s. absurd (f s)
 seen_off : (q : Point) (k : Piece) → IsPieceSeen q k → IsPieceThrough q k → ⊥
 seen_off q k s t = let a = s.over_line in let b = t.on_line in absurd (omega (arith, ints))
 
--- ---- one look
-module _ (h : Highest) (n : ℕ) (r : PieceInMemory) (here : Member (n, r) h.history.now.rows) where
-  abbrev found : PieceBelow
-  found = record { name = n; line = line_of (piece_of r) }
+-- ---- what an entry tells
+row_of : (rows : List (ℕ × PieceInMemory)) (e : Entry) → Member e (entries_of rows) → (r : ℕ × PieceInMemory) × Member r rows × (e ≡ entry_of r)
+row_of rows e m = of_map entry_of e rows m
 
-  taken_may : (lie : Lie) → IsLie h.point (piece_of r) lie → (k : Highest) → MayVisit k h → MayVisit k (taken h n (piece_of r) lie)
-  taken_may Below s k m = record { history = m.history; point = m.point; place = m.place; fit = m.fit; through = m.through; best = best_kept h.point found h.history.now h.best m.best (r, here, (s, refl)) }
-  taken_may Through s k m = record { history = m.history; point = m.point; place = m.place; fit = m.fit; through = (r, here, s); best = m.best }
+pub named : (rows : List (ℕ × PieceInMemory)) (e : Entry) → Member e (entries_of rows) → Member e.name (names rows)
+named rows e m =
+    let r = row_of rows e m in
+    subst (λ n. Member n (names rows)) (sym (ap (λ (z : Entry). z.name) r.2)) (in_map (λ (z : ℕ × PieceInMemory). z.0) r.0 rows r.1)
+
+-- its box is that of the piece of its name
+pub boxed : (rows : List (ℕ × PieceInMemory)) (e : Entry) → IsDistinct ◌==◌ (names rows) → Member e (entries_of rows) → (k : PieceInMemory) → Member (e.name, k) rows → e.bounds ≡ box_of (piece_of k)
+boxed rows e once m k here =
+    let r = row_of rows e m in
+    let there : Member (e.name, r.0.1) rows = subst (λ n. Member (n, r.0.1) rows) (sym (ap (λ (z : Entry). z.name) r.2)) r.1 in
+    ap (λ (z : Entry). z.bounds) r.2 ∙ ap (λ z. box_of (piece_of z)) (same_row rows e.name r.0.1 k once there here)
+
+over_second : (g f y z : ℤ) → f ≤ℤ g → g <ℤ int_max f y → y ≡ z → g <ℤ z
+over_second g f y z a b e = omega (arith, ints, int_max_is f y)
+
+-- ---- one look
+module _ (h : Highest) (e : Entry) (r : PieceInMemory) (here : Member (e.name, r) h.history.now.rows) (box : e.bounds ≡ box_of (piece_of r)) where
+  abbrev found : PieceBelow
+  found = record { name = e.name; line = line_of (piece_of r) }
+
+  -- what is below the box of a piece that the point sees needs no look
+  raised : IsPoint h.point → IsFitPiece (piece_of r) → IsPieceSeen h.point (piece_of r) → IsFloor h → IsFloor (taken h e (piece_of r) Below)
+  raised P f s under = λ m fm sp low b.
+      by_lt_z (box_of m).greatest.y h.floor
+      (λ l. let w = under m fm sp low l in record { off = w.off; passed = passed_still h.point found h.best m w.passed })
+      (λ l.
+      let k = piece_of r in
+      let Q = point_is_proper h.point P in
+      let c : (box_of m).greatest.y <ℤ (box_of k).least.y = over_second (box_of m).greatest.y h.floor e.bounds.least.y (box_of k).least.y l b (ap (λ (z : BoundingBox). z.least.y) box) in
+      record {
+        off = lower_off h.point Q k m f fm s sp c;
+        passed = λ x. not_over_trans (leant_total h.point) (line_of m) (line_of k) (higher_piece h.point h.best found).line (lower_not_higher h.point Q k m f fm s sp c) (passed_new h.point found h.best k refl s);
+      })
+
+  taken_may : (lie : Lie) → IsLie h.point (piece_of r) lie → (k : Highest) → MayVisit k h → MayVisit k (taken h e (piece_of r) lie)
+  taken_may Below s k m = record { history = m.history; point = m.point; place = m.place; fit = m.fit; once = m.once; through = m.through; best = best_kept h.point found h.history.now h.best m.best (r, here, (s, refl)); floor = λ own. raised m.place (m.fit (e.name, r) here) s (m.floor own) }
+  taken_may Through s k m = record { history = m.history; point = m.point; place = m.place; fit = m.fit; once = m.once; through = (r, here, s); best = m.best; floor = λ own. cc }
   taken_may Apart s k m = m
 
-  taken_seen : (lie : Lie) → IsLie h.point (piece_of r) lie → (taken h n (piece_of r) lie).through ≡ None → IsPieceNamed (taken h n (piece_of r) lie).history.now (IsCleared (taken h n (piece_of r) lie)) n
-  taken_seen Below s own = (r, here, record { off = seen_off h.point (piece_of r) s; passed = passed_new h.point found h.best (piece_of r) refl })
-  taken_seen Through s own = cc
-  taken_seen Apart s own = (r, here, record { off = s.off; passed = passed_unseen h.point h.best (piece_of r) s.unseen })
+  taken_seen : (lie : Lie) → IsLie h.point (piece_of r) lie → HasSeen (taken h e (piece_of r) lie) e
+  taken_seen Below s = λ own. (r, here, record { off = seen_off h.point (piece_of r) s; passed = passed_new h.point found h.best (piece_of r) refl })
+  taken_seen Through s = λ own. cc
+  taken_seen Apart s = λ own. (r, here, record { off = s.off; passed = passed_unseen h.point h.best (piece_of r) s.unseen })
 
-  taken_still : (lie : Lie) → IsLie h.point (piece_of r) lie → (e : Entry) → HasSeen h e → HasSeen (taken h n (piece_of r) lie) e
-  taken_still Below s e seen = λ own. let w = seen own in (w.0, w.1, record { off = w.2.off; passed = passed_still h.point found h.best (piece_of w.0) w.2.passed })
-  taken_still Through s e seen = λ own. cc
-  taken_still Apart s e seen = seen
+  taken_still : (lie : Lie) → IsLie h.point (piece_of r) lie → (x : Entry) → HasSeen h x → HasSeen (taken h e (piece_of r) lie) x
+  taken_still Below s x seen = λ own. let w = seen own in (w.0, w.1, record { off = w.2.off; passed = passed_still h.point found h.best (piece_of w.0) w.2.passed })
+  taken_still Through s x seen = λ own. cc
+  taken_still Apart s x seen = seen
 
 -- until a piece through the point was met there is a look
 either : (o : Option ℕ) → IsSome o ⊎ (o ≡ None)
 either None = inr refl
 either (Some n) = inl refl
 
-met_twice : (o : Option ℕ) → IsSome o → o ≡ None → ⊥
-met_twice o s e = false≢true (subst IsSome e s)
-
-module _ (h l : Highest) (n : ℕ) (look : IsLooked h n l) where
+module _ (h l : Highest) (e : Entry) (look : IsLooked h e l) where
   pub looked_may : (k : Highest) → MayVisit k h → MayVisit k l
   looked_may k m = elim (either h.through) [
     | inl s ↦ subst (MayVisit k) (sym (look.met s)) m
-    | inr e ↦ let w = look.found e in subst (MayVisit k) (sym w.4) (taken_may h n w.0 w.1 w.2 w.3 k m)
+    | inr z ↦ let w = look.found z in subst (MayVisit k) (sym w.5) (taken_may h e w.0 w.1 w.2 w.3 w.4 k m)
   ]
 
-  pub looked_seen : (e : Entry) → e.name ≡ n → HasSeen l e
-  looked_seen e i = elim (either h.through) [
-    | inl s ↦ subst (λ x. HasSeen x e) (sym (look.met s)) (λ own. absurd (met_twice h.through s own))
-    | inr z ↦ let w = look.found z in subst (λ x. HasSeen x e) (sym w.4) (λ own. subst (IsPieceNamed (taken h n (piece_of w.0) w.2).history.now (IsCleared (taken h n (piece_of w.0) w.2))) (sym i) (taken_seen h n w.0 w.1 w.2 w.3 own))
+  pub looked_seen : HasSeen l e
+  looked_seen = elim (either h.through) [
+    | inl s ↦ subst (λ x. HasSeen x e) (sym (look.met s)) (λ own. absurd (not_none h.through s own))
+    | inr z ↦ let w = look.found z in subst (λ x. HasSeen x e) (sym w.5) (taken_seen h e w.0 w.1 w.2 w.3 w.4)
   ]
 
-  pub looked_still : (e : Entry) → HasSeen h e → HasSeen l e
-  looked_still e seen = elim (either h.through) [
-    | inl s ↦ subst (λ x. HasSeen x e) (sym (look.met s)) seen
-    | inr z ↦ let w = look.found z in subst (λ x. HasSeen x e) (sym w.4) (taken_still h n w.0 w.1 w.2 w.3 e seen)
+  pub looked_still : (x : Entry) → HasSeen h x → HasSeen l x
+  looked_still x seen = elim (either h.through) [
+    | inl s ↦ subst (λ y. HasSeen y x) (sym (look.met s)) seen
+    | inr z ↦ let w = look.found z in subst (λ y. HasSeen y x) (sym w.5) (taken_still h e w.0 w.1 w.2 w.3 w.4 x seen)
   ]

@@ -1,8 +1,10 @@
-ghost use Rattle.std.specs.Prelude.{◌≡◌, pos, ◌<ℤ◌, Some, IfSome};
+ghost use Rattle.std.specs.Prelude.{◌≡◌, ◌==◌, pos, ◌<ℤ◌, ◌≤ℤ◌, Some, IfSome};
+ghost use Rattle.std.specs.List.{IsDistinct};
 ghost use Rattle.exact_plane.specs.Point.{IsPoint};
 ghost use Rattle.plane_graphs.specs.Ascending.{Member};
 ghost use Rattle.slab_laws.specs.Pieces.{piece_of};
 ghost use Rattle.slab_laws.specs.Tables.{names};
+ghost use Rattle.curve_pieces.specs.PieceRows.{entries_of};
 ghost use Rattle.piece_location.specs.Heights.{line_of, IsPieceSeen};
 ghost use Rattle.piece_location.specs.Lies.{IsLie};
 ghost use Rattle.piece_location.specs.Looks.{higher_piece, taken, AreFitRows, IsLooked, IsReady};
@@ -28,6 +30,8 @@ pub(crate) struct Highest<'a> {
     pub(crate) point: Point,
     pub(crate) through: Option<usize>,
     pub(crate) best: Option<PieceBelow>,
+    /// A piece whose box is wholly below it can't change what was found.
+    pub(crate) floor: i32,
 }
 
 // The highest piece so far gives way to one that is higher.
@@ -45,46 +49,55 @@ fn raise(point: &Point, best: &mut Option<PieceBelow>, below: PieceBelow)
 }
 
 impl<'a> Highest<'a> {
-    // Keeps how a piece lies.
-    fn take(&mut self, name: usize, piece: &Piece, lie: Lie)
+    // Keeps how the piece of an entry lies. What is wholly below the box of a piece that the point sees isn't higher than this one.
+    fn take(&mut self, entry: &Entry, piece: &Piece, lie: Lie)
         requires ready { IsReady self.old }
         requires lie { IsLie self.old.point (piece_of piece.now) lie }
         requires slanted { IsPieceSeen self.old.point (piece_of piece.now) → pos 0 <ℤ (line_of (piece_of piece.now)).b }
-        ensures { self.new ≡ taken self.old name (piece_of piece.now) lie }
+        ensures taken { self.new ≡ taken self.old entry.now (piece_of piece.now) lie }
+        ensures rises { self.old.floor ≤ℤ self.new.floor }
     {
         match lie {
-            Lie::Below => raise(
-                &self.point,
-                &mut self.best,
-                PieceBelow {
-                    name,
-                    line: line_along(&piece.segment),
-                },
-            ),
-            Lie::Through => self.through = Some(name),
+            Lie::Below => {
+                raise(
+                    &self.point,
+                    &mut self.best,
+                    PieceBelow {
+                        name: entry.name,
+                        line: line_along(&piece.segment),
+                    },
+                );
+                self.floor = self.floor.max(entry.bounds.least.y);
+            }
+            Lie::Through => {
+                self.through = Some(entry.name);
+                // A number of 32 bits: it doesn't fall.
+                let _before = self.floor;
+                self.floor = i32::MAX;
+            }
             Lie::Apart => {}
         }
     }
 
-    // A look at the piece of a name. Once a piece goes through the point, nothing more is looked at.
-    fn look_at(&mut self, name: usize)
+    // A look at the piece of an entry. Once a piece goes through the point, nothing more is looked at.
+    fn look_at(&mut self, entry: &Entry)
         requires ready { IsReady self.old }
         requires fit { AreFitRows self.old.history.now }
+        requires once { IsDistinct ◌==◌ (names self.old.history.now.rows) }
         requires place { IsPoint self.old.point }
-        requires name { Member name (names self.old.history.now.rows) }
-        ensures { IsLooked self.old name self.new }
+        requires entry { Member entry.now (entries_of self.old.history.now.rows) }
+        ensures { IsLooked self.old entry.now self.new }
     {
         if self.through.is_some() {
             return;
         }
-        let piece = *self.history.piece(name);
+        let piece = *self.history.piece(entry.name);
         let lie = lie_of(&piece, &self.point);
-        self.take(name, &piece, lie);
+        self.take(entry, &piece, lie);
     }
 }
 
 impl<'a> Visitor for Highest<'a> {
-    ghost use Rattle.std.specs.Prelude.{negsuc};
     ghost use Rattle.piece_location.specs.Looks.{MayVisit, Knows, HasSeen};
 
     ghost may_visit = { MayVisit };
@@ -93,14 +106,13 @@ impl<'a> Visitor for Highest<'a> {
 
     ghost has_seen = { HasSeen };
 
-    ghost floor_of = { λ l. negsuc 2147483647 };
+    ghost floor_of = { λ l. l.floor };
 
-    // No floor: what is below the highest piece so far is shown too, and told by its ends or its line.
     fn floor(&self) -> i32 {
-        i32::MIN
+        self.floor
     }
 
     fn visit(&mut self, entry: &Entry) {
-        self.look_at(entry.name);
+        self.look_at(entry);
     }
 }

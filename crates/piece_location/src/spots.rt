@@ -28,6 +28,7 @@ fn look_down<'a>(records: &Records, history: &'a History, point: &Point) -> High
         point: *point,
         through: None,
         best: None,
+        floor: i32::MIN,
     };
     history.visit_below(point.whole_parts(), &mut highest);
     highest
@@ -90,7 +91,8 @@ fn locate_free(records: &Records, history: &History, point: &Point) -> Spot
 /// Where a point lies: the vertex at it, by its hash, else the edge that has it inside, else the face over the highest piece below it, found by the index
 /// over the pieces (de Berg and others: windowing; CGAL manual, `Arr_walk_along_line_point_location`, of which it keeps the answer).
 ///
-/// It looks at the pieces whose boxes the ray down from the point meets, and goes once along the edges of one curve. It takes no memory.
+/// It looks at the pieces whose boxes the ray down from the point meets, but for those wholly below the box of one below the point that it has
+/// looked at, and goes once along the edges of one curve. It takes no memory.
 pub fn locate(records: &Records, history: &History, point: &Point) -> Spot
     requires map { IsSoundMap records.now }
     requires past { IsPastOf records.now.graph history.now }

@@ -7,6 +7,7 @@ ghost use Rattle.dcel_records.specs.SoundMaps.{IsMapAtRest, IsSoundMap, map_of};
 ghost use Rattle.curve_history.specs.Past.{curves_on, strands_on, SameLayer, SameCurves, SameStrands};
 ghost use Rattle.curve_history.specs.declared.history.TheConstants.{LAST_CURVE};
 ghost use Rattle.told_steps.specs.RecordLayers.{IsLayer};
+ghost use Rattle.piece_location.specs.Layers.{IsPastOf};
 ghost use Rattle.zone_walk.specs.Zone.{IsZoneOf};
 ghost use Rattle.segment_insert.specs.Insertion.{insert_said, pairs_to_part, refusal_at, refusal_of_sides, HasRoomFor, HasRoomForPlan};
 ghost use Rattle.segment_insert.specs.Looks.{AreZoneLooks};
@@ -22,12 +23,13 @@ use dcel_records::{Records, Room, Spot};
 use exact_plane::Segment;
 use no_memory::NoMemory;
 use observer_bus::Bus;
+use piece_zone::PieceSource;
 use slab_laws::{CurveId, Piece};
 use std::alloc::Global;
 use std::sync::ledger::Ledger;
 use thiserror::Error;
 use work_steps::Steps;
-use zone_walk::{Meeting, ZonePlan, zone};
+use zone_walk::{Meeting, ZonePlan, zone_by};
 
 /// Why a segment isn't inserted.
 #[derive(Clone, Copy, Debug, PartialEq, Eq, Error)]
@@ -128,6 +130,7 @@ fn prepare<L: Ledger>(
     steps: &mut Steps<L>,
 ) -> Result<ZonePlan, NoMemory>
     requires map { IsSoundMap records.old }
+    requires past { IsPastOf records.old.graph history.old }
     requires start { IsSpotOf records.old.graph (tables_of records.old) segment.now.lower start }
     ensures zone { IfOk result (IsZoneOf records.old.graph (tables_of records.old) segment.now) }
     ensures room { IfOk result (λ z. HasRoomForPlan z (strands_on history.old) records.new history.new) }
@@ -141,7 +144,11 @@ fn prepare<L: Ledger>(
 {
     // Each face lists its own cycles and isolated vertices.
     records.face_laws();
-    let plan = zone(alloc, &*records, segment, start, steps)?;
+    let pieces = PieceSource {
+        records: &*records,
+        history: &*history,
+    };
+    let plan = zone_by(alloc, &*records, segment, start, &pieces, steps)?;
     let vertices = plan.vertices.as_slice();
     // One pair more than open parts, and than the new side needs.
     make_room(records, history, plan.room, vertices, 1, vertices.len())?;

@@ -12,6 +12,7 @@ ghost use Rattle.curve_history.specs.declared.history.TheConstants.{LAST_CURVE};
 ghost use Rattle.observer_bus.specs.Rows.{bus_row};
 ghost use Rattle.told_steps.specs.LayerEdits.{IsAfter, layer_at};
 ghost use Rattle.told_steps.specs.RecordLayers.{IsLayer};
+ghost use Rattle.piece_location.specs.Layers.{IsPastOf};
 ghost use Rattle.told_steps.specs.ToldEdits.{AreWatched, IsToldEdit};
 ghost use Rattle.told_steps.specs.ToldRuns.{AreInStep, IsToldRun};
 ghost use Rattle.zone_walk.specs.Zone.{points_of_meetings};
@@ -28,7 +29,8 @@ use dcel_records::{Records, Room, Spot};
 use exact_plane::{Path, Point, Segment};
 use no_memory::NoMemory;
 use observer_bus::Bus;
-use path_zone::{PathPlan, path_zone};
+use path_zone::{PathPlan, path_zone_by};
+use piece_zone::PieceSource;
 use side_parts::{Part, Side, parts_in_order, sides_of};
 use slab_laws::{CurveId, Piece};
 use std::alloc::Global;
@@ -94,6 +96,7 @@ fn prepare_path<L: Ledger>(
     steps: &mut Steps<L>,
 ) -> Result<PathParts, NoMemory>
     requires map { IsSoundMap records.old }
+    requires past { IsPastOf records.old.graph history.old }
     requires starts { AreStarts records.old.graph (tables_of records.old) sides.now starts.now }
     requires few { length sides.now ≤ 8 }
     ensures zone { IfOk result (λ z. IsPathZone records.old.graph (tables_of records.old) sides.now z.plan) }
@@ -108,7 +111,11 @@ fn prepare_path<L: Ledger>(
     ensures same_curves { SameCurves history.old history.new }
     ensures looks { ArePathLooks records.old.graph (tables_of records.old) sides.now steps.old steps.new }
 {
-    let plan = path_zone(alloc, &*records, sides, starts, steps)?;
+    let source = PieceSource {
+        records: &*records,
+        history: &*history,
+    };
+    let plan = path_zone_by(alloc, &*records, sides, starts, &source, steps)?;
     let vertices = plan.vertices();
     let lined = sides_of(alloc, sides)?;
     let parts = parts_between(alloc, vertices, &lined)?;

@@ -1,5 +1,5 @@
 -- Where the segment enters a face, what it meets next is on the boundary of the face, or is its upper end in it.
-use Rattle.std.proofs.Common.{◌≡◌, ◌≢◌, true, false, Contains, List, sym, ap, ◌∙◌, subst, inl, inr}
+use Rattle.std.proofs.Common.{◌≡◌, ◌≢◌, true, false, Contains, List, refl, sym, ap, ◌∙◌, subst, inl, inr, ◌⊎◌}
 use Rattle.std.specs.Map.{keys_of}
 use Rattle.exact_plane.specs.Line.{Line, IsOn}
 use Rattle.exact_plane.specs.Point.{Point}
@@ -9,8 +9,9 @@ use Rattle.plane_graphs.specs.Graph.{Edge}
 use Rattle.plane_graphs.specs.Line.{IsProper, precedes}
 use Rattle.plane_graphs.proofs.Lines.{span_runs}
 use Rattle.plane_graphs.proofs.Lists.{clash}
-use Rattle.plane_graphs.proofs.Marks.{le_cases, le_same, le_lt, le_lt_lt, lt_le_lt}
-use Rattle.plane_graphs.proofs.Order.{Lt, lt_out, lt_in, lt_never}
+use Rattle.plane_graphs.proofs.Marks.{Le, le_cases, le_same, le_lt, le_lt_lt, lt_le_lt}
+use Rattle.plane_graphs.proofs.Order.{Lt, lt_out, lt_in, lt_never, Tri, tri}
+use Rattle.plane_graphs.proofs.Order.Tri.{less, same, more}
 use Rattle.integers.proofs.Tests.{not_true}
 use Rattle.slab_laws.specs.declared.names.DartId.{DartId}
 use Rattle.slab_laws.specs.declared.names.FaceId.{FaceId}
@@ -19,7 +20,7 @@ use Rattle.slab_laws.specs.Darts.{Dart}
 use Rattle.slab_laws.specs.FacesSound.{IsSound}
 use Rattle.slab_laws.specs.Skeleton.{inside}
 use Rattle.slab_laws.specs.Sound.{edge_in, edge_between, IsGraphSound}
-use Rattle.slab_laws.specs.View.{View, Faces, HasVertex, HasDart, point_in, twin_in}
+use Rattle.slab_laws.specs.View.{View, Faces, HasVertex, HasDart, point_in, source_in, twin_in, target_in}
 use Rattle.sound_views.proofs.NamedDarts.{twin_dart}
 use Rattle.sound_changes.proofs.Collinear.{flat_on_line, on_line_of_ends}
 use Rattle.sound_changes.proofs.PointInside.{inside_out, inside_in}
@@ -33,12 +34,13 @@ use Rattle.dcel_records.specs.Spots.{IsInFace}
 use Rattle.dcel_records.specs.declared.spot.Spot.{Spot}
 use Rattle.dcel_records.specs.declared.spot.Spot.TheVariants.{Face}
 use Rattle.face_location.specs.Spots.{IsSpotOf}
-use Rattle.zone_walk.specs.Searches.{IsPartTaken}
+use Rattle.zone_walk.specs.Searches.{IsLedTo, IsPartTaken, LeadsTo}
 use Rattle.zone_walk.specs.Walk.{IsAhead}
 use Rattle.zone_walk.specs.Zone.{meeting_points, IsNextMeeting, IsSpotBetween}
+use Rattle.zone_walk.proofs.Aheads.{at_most, not_before}
 use Rattle.zone_walk.proofs.Courses.{IsCourse, LiesOn, lies_out, lies_in}
 use Rattle.zone_walk.proofs.MeetingPoints.{MeetsAt, lower, upper, vertex, passed, passes_out}
-use Rattle.zone_walk.proofs.Stretches.{face_between, told, meets_lies, meets_proper}
+use Rattle.zone_walk.proofs.Stretches.{face_between, told, listed, meets_lies, meets_proper}
 
 module _ (v : View) (f : Faces) (S : IsSound v f) (g : Segment) (c : IsCourse g) (p : Point) (proper : IsProper p) (on : LiesOn g p) (before : Lt p g.upper) where
   s : IsGraphSound v
@@ -99,20 +101,45 @@ module _ (v : View) (f : Faces) (S : IsSound v f) (g : Segment) (c : IsCourse g)
       pub face_at : IsInFace v q → IsSpotOf v f q (Face a)
       face_at h = record { met = h; face = bounded.inner h }
 
+      -- no edge leads to it: the edge would go on from p, or begin between
+      not_led : (e : DartId) → LeadsTo v g q e → ⊥
+      not_led e h = by (tri p low)
+        where
+          low : Point
+          low = point_in v (source_in v e)
+
+          begins : Lt low q
+          begins = lt_out low q h.begins
+
+          ends : Lt p (point_in v (target_in v e))
+          ends = lt_le_lt first (at_most q (point_in v (target_in v e)) h.ends)
+
+          by : Tri p low → ⊥
+          by (less l) =
+              let on_line : IsOn line low = subst (λ (m : Line). IsOn m low) h.line (s.drawn.starts e h.forward.0) in
+              let m : MeetsAt v g low = vertex (source_in v e) (s.linked.source e h.forward.0) refl (lies_in g low (record { on = on_line; from = le_lt (le_lt_lt on.from l); upto = le_lt (lt_le_lt begins lies.upto) })) in
+              clash (lt_in begins) (n.none_between low (listed v s g c low m) (lt_in l))
+          by (same i) = none e (record { forward = h.forward; line = h.line; begins = not_before (subst (λ (x : Point). Le x p) i (le_same p)); ends = lt_in ends })
+          by (more l) = none e (record { forward = h.forward; line = h.line; begins = not_before (le_lt l); ends = lt_in ends })
+
       -- where it isn't found on the boundary it meets nothing
       module _ (es : List (Point × Spot)) (taken : (t : BoundaryPart) → walks.IsOnBoundary v f a t → IsPartTaken v g p es t) (missing : Member q (keys_of es) → ⊥) where
+        untaken : Member q (keys_of es) ⊎ IsLedTo v g q → ⊥
+        untaken (inl m) = missing m
+        untaken (inr e) = not_led e.0 e.1
+
         no_vertex : (w : VertexId) → HasVertex v w → point_in v w ≢ q
         no_vertex w W e = elim (bounded.vertex w W e) [
-          | inl b ↦ missing (subst (λ (x : Point). Member x (keys_of es)) e (taken (walked.Isolated w) (b.0, b.1) (subst (Contains (meeting_points v g)) (sym e) n.meets) (ap (precedes p) e ∙ n.later)))
-          | inr d ↦ missing (taken (walked.Dart d.dart) (d.has, d.left) q (inr (inl (sym e ∙ ap (point_in v) (sym d.into)))) n.meets n.later)
+          | inl b ↦ untaken (subst (λ (x : Point). Member x (keys_of es) ⊎ IsLedTo v g x) e (taken (walked.Isolated w) (b.0, b.1) (subst (Contains (meeting_points v g)) (sym e) n.meets) (ap (precedes p) e ∙ n.later)))
+          | inr d ↦ untaken (taken (walked.Dart d.dart) (d.has, d.left) q (inr (inl (sym e ∙ ap (point_in v) (sym d.into)))) n.meets n.later)
         ]
 
         no_edge : (d : DartId) → HasDart v d → inside (edge_in v d) q ≡ false
         no_edge d D = not_true (inside (edge_in v d) q) (λ i. elim (bounded.edge d D i) [
-          | inl e ↦ missing (taken (walked.Dart d) (D, e) q (inr (inr i)) n.meets n.later)
+          | inl e ↦ untaken (taken (walked.Dart d) (D, e) q (inr (inr i)) n.meets n.later)
           | inr e ↦
               let t = twin_dart v s d D in
-              missing (taken (walked.Dart (twin_in v d)) (s.twinned.has d D, e) q (inr (inr (ap (λ (x : Dart). inside x.edge q) t ∙ i))) n.meets n.later)
+              untaken (taken (walked.Dart (twin_in v d)) (s.twinned.has d D, e) q (inr (inr (ap (λ (x : Dart). inside x.edge q) t ∙ i))) n.meets n.later)
         ])
 
         pub nothing_met : IsInFace v q

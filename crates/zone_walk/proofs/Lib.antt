@@ -13,6 +13,8 @@ pub mod SeenSpans
 pub mod Degrees
 pub mod SeenMeetings
 pub mod Searched
+pub mod Gathering
+pub mod CycleLists
 pub mod Visited
 pub mod LineSides
 pub mod PartsAhead

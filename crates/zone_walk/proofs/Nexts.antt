@@ -41,7 +41,7 @@ use Rattle.face_location.specs.Spots.{IsSpotOf}
 use Rattle.locate_naive.proofs.Within.{in_dart}
 use Rattle.zone_walk.specs.Parts.{TellsFace}
 use Rattle.sound_views.proofs.ForwardDarts.{target_has}
-use Rattle.zone_walk.specs.Searches.{IsThere, IsFoundAfter, AreFoundAfter, IsPartTaken, IsSearchFrom, HasSeen}
+use Rattle.zone_walk.specs.Searches.{IsThere, IsFoundAfter, AreFoundAfter, IsLedTo, IsPartTaken, IsSearchFrom, HasSeen}
 use Rattle.zone_walk.specs.Walk.{IsAhead, IsSpotStretch, IsSearchAt, lesser}
 use Rattle.zone_walk.specs.Zone.{meeting_points, later_points, IsNextMeeting, IsSpotBetween}
 use Rattle.zone_walk.specs.declared.plan.Meeting.{Meeting}
@@ -105,7 +105,7 @@ module _ (q : Point) (at : Spot) (es : Entries) (ascend : IsStrictlySortedBy poi
   after_first r m = record { is = All-member (λ x. point_cmp q x ≡ Less) r (keys_of es) (from_std point_cmp (keys_of ((q, at) ∷ es)) ascend).0 m }
 
 -- ---- from one meeting point to the next
-module _ (v : View) (f : Faces) (g : Segment) (l m : Search) (p q : Point) (a : IsSearchAt v f g p l) (n : IsNextMeeting v g p q) (segment : m.segment ≡ l.segment) (here : m.here ≡ q) (visited : m.visited ≡ l.visited) (whole : m.whole ≡ l.whole) (bounds : m.bounds ≡ l.bounds) where
+module _ (v : View) (f : Faces) (g : Segment) (l m : Search) (p q : Point) (a : IsSearchAt v f g p l) (n : IsNextMeeting v g p q) (segment : m.segment ≡ l.segment) (here : m.here ≡ q) (visited : m.visited ≡ l.visited) (whole : m.whole ≡ l.whole) (bounds : m.bounds ≡ l.bounds) (gathered : m.gathered ≡ l.gathered) where
   module _ (only : (r : Point) (at : Spot) → Member (r, at) (entries_in m.found) → Member (r, at) (entries_in l.found) × (r ≢ q)) (kept : (r : Point) → Member r (keys_of (entries_in l.found)) → r ≢ q → Member r (keys_of (entries_in m.found))) where
     pub found_before : AreFoundAfter v g p (entries_in l.found)
     found_before = subst (λ (z : Segment). AreFoundAfter v z p (entries_in l.found)) a.segment (subst (λ (z : Point). AreFoundAfter v l.segment z (entries_in l.found)) a.here a.search.found)
@@ -121,12 +121,23 @@ module _ (v : View) (f : Faces) (g : Segment) (l m : Search) (p q : Point) (a : 
         by r h d (same e) = absurd (d (sym e))
         by r h d (more k) = clash (lt_in k) (n.none_between r h.meets h.later)
 
+    left_over : (es : Entries) (fs : Entries) → ((r : Point) → Member r (keys_of es) → r ≢ q → Member r (keys_of fs)) → (r : Point) → precedes q r ≡ true → Member r (keys_of es) ⊎ IsLedTo v g r → Member r (keys_of fs) ⊎ IsLedTo v g r
+    left_over es fs k r i (inl j) = inl (k r j (λ e. lt_never (subst (Lt q) e (lt_out q r i))))
+    left_over es fs k r i (inr e) = inr e
+
     part_after : (es : Entries) (fs : Entries) → ((r : Point) → Member r (keys_of es) → r ≢ q → Member r (keys_of fs)) → (t : BoundaryPart) → IsPartTaken v g p es t → IsPartTaken v g q fs t
-    part_after es fs k (Dart d) h = λ r o c i. k r (h r o c (lt_in (lt_trans (lt_out p q n.later) (lt_out q r i)))) (λ e. lt_never (subst (Lt q) e (lt_out q r i)))
-    part_after es fs k (Isolated w) h = λ c i. k (point_in v w) (h c (lt_in (lt_trans (lt_out p q n.later) (lt_out q (point_in v w) i)))) (λ e. lt_never (subst (Lt q) e (lt_out q (point_in v w) i)))
+    part_after es fs k (Dart d) h = λ r o c i. left_over es fs k r i (h r o c (lt_in (lt_trans (lt_out p q n.later) (lt_out q r i))))
+    part_after es fs k (Isolated w) h = λ c i. left_over es fs k (point_in v w) i (h c (lt_in (lt_trans (lt_out p q n.later) (lt_out q (point_in v w) i))))
 
     same_segment : m.segment ≡ g
     same_segment = segment ∙ a.segment
+
+    gathered_after : (d : DartId) → IsPartTaken v l.segment l.here (entries_in l.found) (Dart d) → IsPartTaken v m.segment m.here (entries_in m.found) (Dart d)
+    gathered_after d h =
+        subst (λ (z : Segment). IsPartTaken v z m.here (entries_in m.found) (Dart d)) (sym same_segment)
+        (subst (λ (z : Point). IsPartTaken v g z (entries_in m.found) (Dart d)) (sym here)
+        (part_after (entries_in l.found) (entries_in m.found) kept (Dart d)
+        (subst (λ (z : Segment). IsPartTaken v z p (entries_in l.found) (Dart d)) a.segment (subst (λ (z : Point). IsPartTaken v l.segment z (entries_in l.found) (Dart d)) a.here h))))
 
     pub moved : IsSearchAt v f g q m
     moved = record {
@@ -140,6 +151,7 @@ module _ (v : View) (f : Faces) (g : Segment) (l m : Search) (p q : Point) (a : 
         stands = subst (λ (z : Segment). Contains (meeting_points v z) m.here) (sym same_segment) (subst (Contains (meeting_points v g)) (sym here) n.meets);
         found = subst (λ (z : Segment). AreFoundAfter v z m.here (entries_in m.found)) (sym same_segment) (subst (λ (z : Point). AreFoundAfter v g z (entries_in m.found)) (sym here) found_after);
         kept = λ r i. i;
+        gathered = λ e d has. gathered_after d (a.search.gathered (sym gathered ∙ e) d has);
       };
       segment = same_segment;
       here = here;
@@ -236,7 +248,7 @@ module _ (v : View) (f : Faces) (S : IsSound v f) (g : Segment) (c : IsCourse g)
 -- ---- one more face visited
 -- the search with other faces that it visited
 abbrev pub with_visited : Search → BTreeSet ℕ → Search
-with_visited l w = record { alloc = l.alloc; segment = l.segment; whole = l.whole; bounds = l.bounds; here = l.here; found = l.found; visited = w; failed = l.failed }
+with_visited l w = record { alloc = l.alloc; segment = l.segment; whole = l.whole; bounds = l.bounds; here = l.here; found = l.found; visited = w; gathered = l.gathered; failed = l.failed }
 
 pub from_itself : (v : View) (l : Search) (w : BTreeSet ℕ) → IsSearchFrom v l l → IsSearchFrom v (with_visited l w) (with_visited l w)
 from_itself v l w h = record {
@@ -249,6 +261,7 @@ from_itself v l w h = record {
   stands = h.stands;
   found = h.found;
   kept = λ r i. i;
+  gathered = h.gathered;
 }
 
 module _ (v : View) (f : Faces) (l : Search) (a : IsSearchAt v f l.segment l.here l) (w : BTreeSet ℕ) where
@@ -284,6 +297,7 @@ module _ (v : View) (f : Faces) (l : Search) (a : IsSearchAt v f l.segment l.her
         stands = ready.stands;
         found = ready.found;
         kept = λ r i. i;
+        gathered = ready.gathered;
       };
       segment = ready.one.segment;
       here = ready.one.here;

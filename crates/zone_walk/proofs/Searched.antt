@@ -68,14 +68,18 @@ kept_on a b c f g p m = g p (f p m)
 
 -- a part that is taken stays so
 pub part_kept : (v : View) (s : Segment) (here : Point) (es fs : List (Point × Spot)) → AreKept es fs → (t : BoundaryPart) → IsPartTaken v s here es t → IsPartTaken v s here fs t
-part_kept v s here es fs k (Dart d) h = λ p o c l. k p (h p o c l)
-part_kept v s here es fs k (Isolated w) h = λ c l. k (point_in v w) (h c l)
+part_kept v s here es fs k (Dart d) h = λ p o c l. ⊎_elim (λ m. inl (k p m)) (λ e. inr e) (h p o c l)
+part_kept v s here es fs k (Isolated w) h = λ c l. ⊎_elim (λ m. inl (k (point_in v w) m)) (λ e. inr e) (h c l)
 
-pub still_seen : (v : View) (k l : Search) → IsOneSearch k l → AreKept (entries_in k.found) (entries_in l.found) → (t : BoundaryPart) → HasSeen v k t → HasSeen v l t
-still_seen v k l one kept t h failed =
+-- and so in a search that has gone on
+pub part_on : (v : View) (k l : Search) → IsOneSearch k l → AreKept (entries_in k.found) (entries_in l.found) → (t : BoundaryPart) → IsPartTaken v k.segment k.here (entries_in k.found) t → IsPartTaken v l.segment l.here (entries_in l.found) t
+part_on v k l one kept t h =
     subst (λ (z : Segment). IsPartTaken v z l.here (entries_in l.found) t) (sym one.segment)
     (subst (λ (z : Point). IsPartTaken v k.segment z (entries_in l.found) t) (sym one.here)
-    (part_kept v k.segment k.here (entries_in k.found) (entries_in l.found) kept t (h (one.failed failed))))
+    (part_kept v k.segment k.here (entries_in k.found) (entries_in l.found) kept t h))
+
+pub still_seen : (v : View) (k l : Search) → IsOneSearch k l → AreKept (entries_in k.found) (entries_in l.found) → (t : BoundaryPart) → HasSeen v k t → HasSeen v l t
+still_seen v k l one kept t h failed = part_on v k l one kept t (h (one.failed failed))
 
 -- what one look takes
 abbrev TakesOnly : View → Search → Search → (Point → Type 0) → Type 0
@@ -87,8 +91,8 @@ both_takes v P Q R k l m one f g a b p at i = elim (g p at i) [
   | inl n ↦ elim (f p at n) [ inl o ↦ inl o | inr w ↦ inr (a p w.0, w.1, w.2) ]
 ]
 
-pub goes_on : (v : View) (P : Point → Type 0) (o k l : Search) → IsSearchFrom v o k → IsOneSearch k l → AreKept (entries_in k.found) (entries_in l.found) → ((p : Point) → P p → Contains (meeting_points v k.segment) p) → TakesOnly v k l P → IsSearchFrom v o l
-goes_on v P o k l h one kept sound only = record {
+pub goes_on : (v : View) (P : Point → Type 0) (o k l : Search) → IsSearchFrom v o k → IsOneSearch k l → l.gathered ≡ k.gathered → AreKept (entries_in k.found) (entries_in l.found) → ((p : Point) → P p → Contains (meeting_points v k.segment) p) → TakesOnly v k l P → IsSearchFrom v o l
+goes_on v P o k l h one same kept sound only = record {
   one = one_on o k l h.one one;
   sound = h.sound;
   ends = subst (λ (z : Segment). AreEnds z) (sym one.segment) h.ends;
@@ -101,6 +105,7 @@ goes_on v P o k l h one kept sound only = record {
       (subst (λ (z : Point). AreFoundAfter v k.segment z (entries_in l.found)) (sym one.here)
       (λ p at m. elim (only p at m) [ inl n ↦ h.found p at n | inr w ↦ record { meets = sound p w.0; later = w.2; there = w.1 } ]));
   kept = kept_on (entries_in o.found) (entries_in k.found) (entries_in l.found) h.kept kept;
+  gathered = λ e d has. part_on v k l one kept (Dart d) (h.gathered (sym same ∙ e) d has);
 }
 
 -- ---- a look at a dart
@@ -116,7 +121,7 @@ module _ (v : View) (o k : Search) (h : IsSearchFrom v o k) (d : DartId) (has : 
   stands : MeetsAt v k.segment k.here
   stands = told v h.sound k.segment way k.here h.stands
 
-  after_lower : (p : Point) → precedes k.here p ≡ true → Lt k.segment.lower p
+  pub after_lower : (p : Point) → precedes k.here p ≡ true → Lt k.segment.lower p
   after_lower p l = le_lt_lt (meets_lies v h.sound k.segment way k.here stands).from (lt_out k.here p l)
 
   of_segment : (m : Meet) → IsMeeting k.whole (span_in v d) m → IsMeeting (span_of_segment k.segment) (span_in v d) m
@@ -165,10 +170,11 @@ module _ (v : View) (o k : Search) (h : IsSearchFrom v o k) (d : DartId) (has : 
 
     pub dart_taken : (es : List (Point × Spot)) → ((p : Point) → (Some c.first ≡ Some p) ⊎ (c.last ≡ Some p) → precedes k.here p ≡ true → Member p (keys_of es)) → IsPartTaken v k.segment k.here es (Dart d)
     dart_taken es f p on m l =
-        f p
+        inl
+        (f p
         (subst (λ (z : Option Point × Option Point). (z.0 ≡ Some p) ⊎ (z.1 ≡ Some p)) (points_between c.first c.last)
         (is_told v h.sound k.segment way h.whole d has met.span (meet_between c.first c.last) is_meet p (after_lower p l) m on))
-        l
+        l)
 
 -- ---- a look at a vertex
 module _ (v : View) (o k : Search) (h : IsSearchFrom v o k) (w : VertexId) (has : HasVertex v w) where

@@ -9,6 +9,7 @@ use Rattle.slab_laws.specs.FaceLists.{Lists}
 use Rattle.slab_laws.specs.declared.names.CycleId.{CycleId}
 use Rattle.slab_laws.specs.declared.names.DartId.{DartId}
 use Rattle.slab_laws.specs.declared.names.FaceId.{FaceId}
+use Rattle.slab_laws.specs.declared.names.VertexId.{VertexId}
 use Rattle.sound_views.proofs.NamedDarts.{twin_dart}
 use Rattle.counted_looks.specs.Boundaries.{IsOnBoundary}
 use Rattle.exact_plane.specs.Boxes.{are_apart}
@@ -35,6 +36,11 @@ visit_on v w g f b a e k l m h i = record { graph = i.graph; faces = i.faces; fa
 pub cycle_looked : (v : View) (o k : Search) → IsSearchFrom v o k → (known f : Faces) (a : FaceId) (l : Lists) (c : CycleId) (g : CycleGlimpse) → IsCycleLookOf v f l c g → are_apart k.bounds g.area ≡ true → (d : DartId) → HasDart v d → cycle_in f d ≡ c → HasLooked v known a k (Dart d)
 cycle_looked v o k h known f a l c g look e d has on =
     inl (λ failed. outside_taken v o k h d has (point_in v (source_in v d)) (point_in v (target_in v d)) refl refl (apart_ends v g.area d (look.area d has on) k.bounds e) (entries_in k.found))
+
+-- ---- where the meeting points on edges were gathered, the isolated vertices are looked at
+pub face_gathered : (v : View) (f : Faces) (face : FaceId) (o k : Search) → IsSearchFrom v o k → k.gathered ≡ true → (known : Faces) (a : FaceId) (now : Faces) (b : FaceId) (l : Search) → ((t : BoundaryPart) → HasLooked v known a k t → HasLooked v now b l t) → ((w : VertexId) → IsOnBoundary v f face (Isolated w) → HasLooked v now b l (Isolated w)) → (t : BoundaryPart) → IsOnBoundary v f face t → HasLooked v now b l t
+face_gathered v f face o k h e known a now b l still seen (Isolated w) on = seen w on
+face_gathered v f face o k h e known a now b l still seen (Dart d) on = still (Dart d) (inl (λ failed. h.gathered e d on.0))
 
 -- ---- all of the boundary
 module _ (v : View) (s : IsGraphSound v) (f : Faces) (a : FaceId) (l : Search) where

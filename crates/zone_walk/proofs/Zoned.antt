@@ -1,5 +1,5 @@
 -- Where the walk begins, and what it asks of the next step.
-use Rattle.std.proofs.Common.{◌≡◌, Contains, List, [], refl, sym, ap, ◌∙◌, subst}
+use Rattle.std.proofs.Common.{◌≡◌, false, Contains, List, [], refl, sym, ap, ◌∙◌, subst}
 use Rattle.std.specs.List.{list_any}
 use Rattle.std.specs.Ordering.{is_eq, nat_cmp}
 use Rattle.exact_plane.specs.Point.{Point}
@@ -24,8 +24,8 @@ none_found : (v : View) (g : Segment) (p : Point) (es : List (Point × Spot)) �
 none_found v g p es e q at m = absurd (subst (λ (xs : List (Point × Spot)). Member (q, at) xs) e m)
 
 module _ (v : View) (f : Faces) (s : IsGraphSound v) (g : Segment) (l : Search) where
-  pub began : (p : Point) → p ≡ g.lower → l.segment ≡ g → l.here ≡ g.lower → (entries_in l.found) ≡ [] → l.visited.keys ≡ [] → AreEnds g → IsSpan (span_of_segment g) × (l.whole ≡ span_of_segment g) → l.bounds ≡ bounding_box l.whole → IsSearchAt v f g p l
-  began p e segment here found visited ends whole bounds = record {
+  pub began : (p : Point) → p ≡ g.lower → l.segment ≡ g → l.here ≡ g.lower → (entries_in l.found) ≡ [] → l.visited.keys ≡ [] → l.gathered ≡ false → AreEnds g → IsSpan (span_of_segment g) × (l.whole ≡ span_of_segment g) → l.bounds ≡ bounding_box l.whole → IsSearchAt v f g p l
+  began p e segment here found visited gathered ends whole bounds = record {
     search = record {
       one = record { segment = refl; here = refl; visited = refl; whole = refl; bounds = refl; failed = λ z. z };
       sound = s;
@@ -36,6 +36,7 @@ module _ (v : View) (f : Faces) (s : IsGraphSound v) (g : Segment) (l : Search) 
       stands = subst (λ (z : Segment). Contains (meeting_points v z) l.here) (sym segment) (subst (Contains (meeting_points v g)) (sym here) (listed v s g (course g ends) g.lower (lower refl)));
       found = none_found v l.segment l.here (entries_in l.found) found;
       kept = λ r m. m;
+      gathered = λ z. absurd (clash z gathered);
     };
     segment = segment;
     here = here ∙ sym e;

@@ -6,3 +6,4 @@ pub mod Searches
 pub mod Walk
 pub mod Parts
 pub mod PartLaws
+pub mod Sources

@@ -5,7 +5,7 @@ use Rattle.exact_plane.specs.Line.{Line}
 use Rattle.exact_plane.specs.Point.{Point}
 use Rattle.exact_plane.specs.declared.meets.Meet.{Meet}
 use Rattle.exact_plane.specs.declared.meets.Meet.TheVariants.{Apart, At, Along}
-use Rattle.exact_plane.specs.Segment.{Segment, AreEnds}
+use Rattle.exact_plane.specs.Segment.{Segment, AreEnds, line_of_segment}
 use Rattle.exact_plane.specs.Span.{IsSpan, span_of_segment}
 use Rattle.exact_plane.specs.WholeParts.{bounding_box}
 use Rattle.plane_graphs.specs.Ascending.{Member}
@@ -14,7 +14,8 @@ use Rattle.slab_laws.specs.declared.names.DartId.{DartId}
 use Rattle.slab_laws.specs.declared.names.FaceId.{FaceId}
 use Rattle.slab_laws.specs.Skeleton.{inside}
 use Rattle.slab_laws.specs.Sound.{edge_in, IsGraphSound}
-use Rattle.slab_laws.specs.View.{View, Faces, point_in, source_in, twin_in, target_in}
+use Rattle.slab_laws.specs.View.{View, Faces, HasDart, point_in, source_in, twin_in, target_in, line_in}
+use Rattle.arr_notes.specs.Curves.{IsForward}
 use Rattle.counted_looks.specs.Boundaries.{IsOnBoundary}
 use Rattle.counted_looks.specs.declared.boundary_part.BoundaryPart.{BoundaryPart}
 use Rattle.counted_looks.specs.declared.boundary_part.BoundaryPart.TheVariants.{Dart, Isolated}
@@ -49,11 +50,22 @@ pub record IsFoundAfter (v : View) (s : Segment) (here p : Point) (spot : Spot) 
 abbrev pub AreFoundAfter : View → Segment → Point → List (Point × Spot) → Type 0
 AreFoundAfter v s here es = (p : Point) (spot : Spot) → Member (p, spot) es → IsFoundAfter v s here p spot
 
--- the point is found, if it is a meeting point after another one (this project)
-abbrev pub IsTaken : View → Segment → Point → List (Point × Spot) → Point → Type 0
-IsTaken v s here es p = Contains (meeting_points v s) p → precedes here p ≡ true → Member p (keys_of es)
+-- the edge of the forward dart d leads along the segment to the point: it begins before it, and doesn't end before it (this project)
+pub record LeadsTo (v : View) (s : Segment) (p : Point) (d : DartId) : Type 0 where
+  pub forward : IsForward v d
+  pub line : line_in v d ≡ line_of_segment s
+  pub begins : precedes (point_in v (source_in v d)) p ≡ true
+  pub ends : precedes (point_in v (target_in v d)) p ≡ false
 
--- the later meeting points on the edge of a dart or at a vertex are found (this project)
+-- an edge leads along the segment to the point, so that the walk comes to it along this edge (this project)
+abbrev pub IsLedTo : View → Segment → Point → Type 0
+IsLedTo v s p = (d : DartId) × LeadsTo v s p d
+
+-- the point is found, if it is a meeting point after another one, and no edge leads along the segment to it (this project)
+abbrev pub IsTaken : View → Segment → Point → List (Point × Spot) → Point → Type 0
+IsTaken v s here es p = Contains (meeting_points v s) p → precedes here p ≡ true → Member p (keys_of es) ⊎ IsLedTo v s p
+
+-- the later meeting points on the edge of a dart or at a vertex are found, but for those to which an edge leads (this project)
 abbrev pub IsPartTaken : View → Segment → Point → List (Point × Spot) → BoundaryPart → Type 0
 IsPartTaken v s here es (Dart d) = (p : Point) → IsOnEdge v d p → IsTaken v s here es p
 IsPartTaken v s here es (Isolated w) = IsTaken v s here es (point_in v w)
@@ -73,7 +85,11 @@ pub record IsOneSearch (k l : Search) : Type 0 where
   pub bounds : l.bounds ≡ k.bounds
   pub failed : l.failed ≡ false → k.failed ≡ false
 
--- the search l has gone on from k in a sound view: it stands at a meeting point, and has found what k had, and later meeting points alone (this project)
+-- where all meeting points on edges were gathered, the later ones are found (this project)
+abbrev pub AreGathered : View → Search → Type 0
+AreGathered v l = l.gathered ≡ true → (d : DartId) → HasDart v d → IsPartTaken v l.segment l.here (entries_in l.found) (Dart d)
+
+-- the search l has gone on from k in a sound view: it stands at a meeting point, and has found what k had, and later meeting points alone, all those on edges where they were gathered (this project)
 pub record IsSearchFrom (v : View) (k l : Search) : Type 0 where
   pub one : IsOneSearch k l
   pub sound : IsGraphSound v
@@ -84,6 +100,7 @@ pub record IsSearchFrom (v : View) (k l : Search) : Type 0 where
   pub stands : Contains (meeting_points v l.segment) l.here
   pub found : AreFoundAfter v l.segment l.here (entries_in l.found)
   pub kept : AreKept (entries_in k.found) (entries_in l.found)
+  pub gathered : AreGathered v l
 
 -- unless memory was wanting, the later meeting points on the part of the boundary are found (this project)
 abbrev pub HasSeen : View → Search → BoundaryPart → Type 0

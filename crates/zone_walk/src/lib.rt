@@ -19,11 +19,13 @@ mod plan;
 mod records_sight;
 mod search;
 mod sight;
+mod source;
 mod walk;
 
 pub use plan::{Meeting, ZonePlan};
 pub use sight::{Seen, Sight};
-pub use walk::zone;
+pub use source::{MeetingSource, NoSource};
+pub use walk::{zone, zone_by};
 
 /// What is told towards a point is told towards every point before it, and the face told is there.
 pub fn faces_are_told()

@@ -1,5 +1,5 @@
 //! The look at a face's boundary for meeting points.
-ghost use Rattle.std.specs.Prelude.{◌≡◌, ◌⊎◌, ◌+◌, true, false, Some, IfSome};
+ghost use Rattle.std.specs.Prelude.{◌≡◌, ◌⊎◌, ◌+◌, true, false, Some, IfSome, OnOk};
 ghost use Rattle.std.specs.Bool.{OnTrue};
 ghost use Rattle.std.specs.Map.{keys_of};
 ghost use Rattle.plane_graphs.specs.Ascending.{Member};
@@ -14,10 +14,13 @@ ghost use Rattle.zone_walk.specs.Searches.{AreKept, IsOnEdge, IsThere, IsOneSear
 
 use crate::edge_points::{CommonPoints, is_ruled_out, points_on_edge};
 use crate::found::FoundPoints;
+use crate::plan::Meeting;
 use crate::sight::Sight;
+use crate::source::MeetingSource;
 use counted_looks::{BoundaryPart, Glimpse, Looker, NameCalls};
 use dcel_records::Spot;
 use exact_plane::{BoundingBox, Line, Point, Segment, Span};
+use no_memory::NoMemory;
 use slab_laws::{CycleId, DartId, FaceId, VertexId};
 use std::alloc::Global;
 use std::collections::BTreeSet;
@@ -38,6 +41,8 @@ pub(crate) struct Search {
     pub(crate) found: FoundPoints,
     /// The names of the faces whose boundaries were looked at.
     pub(crate) visited: BTreeSet<usize>,
+    /// Whether all later points on edges were found by a source. Then of a face's boundary only its isolated vertices are looked at.
+    pub(crate) gathered: bool,
     /// Whether there was no memory for one that was found.
     pub(crate) failed: bool,
 }
@@ -46,6 +51,7 @@ impl Search {
     // Keeps a point, where it comes later.
     fn take(&mut self, point: Point, spot: Spot)
         ensures same { IsOneSearch self.old self.new }
+        ensures gathered { self.new.gathered ≡ self.old.gathered }
         ensures kept { AreKept (entries_in self.old.found) (entries_in self.new.found) }
         ensures taken { self.new.failed ≡ false → precedes self.old.here point ≡ true → Member point (keys_of (entries_in self.new.found)) }
         ensures only { (p : _) (at : _) → Member (p, at) (entries_in self.new.found) → Member (p, at) (entries_in self.old.found) ⊎ ((p ≡ point) × (at ≡ spot) × (precedes self.old.here p ≡ true)) }
@@ -57,6 +63,39 @@ impl Search {
             }
         }
     }
+}
+
+// Keeps those of some meeting points that come later.
+fn take_all(search: &mut Search, meetings: &[Meeting])
+    ensures same { IsOneSearch search.old search.new }
+    ensures gathered { search.new.gathered ≡ search.old.gathered }
+    ensures kept { AreKept (entries_in search.old.found) (entries_in search.new.found) }
+    ensures taken { search.new.failed ≡ false → (m : _) → Member m meetings.now → precedes search.old.here m.point ≡ true → Member m.point (keys_of (entries_in search.new.found)) }
+    ensures only { (p : _) (at : _) → Member (p, at) (entries_in search.new.found) → Member (p, at) (entries_in search.old.found) ⊎ (Member (record { point = p; spot = at }) meetings.now × (precedes search.old.here p ≡ true)) }
+{
+    'each: for meeting in meetings {
+        search.take(meeting.point, meeting.spot);
+    }
+}
+
+/// Finds all later meeting points on edges at once, where a source tells them.
+///
+/// # Errors
+///
+/// There was no memory for them.
+pub(crate) fn gather<M: MeetingSource>(search: &mut Search, source: &M) -> Result<(), NoMemory>
+    requires { (v : _) × M.knows source.now v }
+    ensures { OnOk result ((v : _) (k : _) → M.knows source.now v → IsSearchFrom v k search.old → IsSearchFrom v k search.new) }
+{
+    let Some(meetings) = source.meetings(search.alloc, &search.segment)? else {
+        return Ok(());
+    };
+    take_all(search, meetings.as_slice());
+    if search.failed {
+        return Err(NoMemory);
+    }
+    search.gathered = true;
+    Ok(())
 }
 
 // The vertex at a point on the edge of a dart between two points, or the edge.
@@ -93,6 +132,7 @@ fn take_on<T: Sight>(
     requires target { common.now.target ≡ point_in (T.graph sight.now) (target_in (T.graph sight.now) dart) }
     requires on { IfSome point (IsOnEdge (T.graph sight.now) dart) }
     ensures same { IsOneSearch search.old search.new }
+    ensures gathered { search.new.gathered ≡ search.old.gathered }
     ensures kept { AreKept (entries_in search.old.found) (entries_in search.new.found) }
     ensures taken { search.new.failed ≡ false → IfSome point (λ p. precedes search.old.here p ≡ true → Member p (keys_of (entries_in search.new.found))) }
     ensures only { (p : _) (at : _) → Member (p, at) (entries_in search.new.found) → Member (p, at) (entries_in search.old.found) ⊎ ((point ≡ Some p) × IsThere (T.graph sight.now) p at × (precedes search.old.here p ≡ true)) }

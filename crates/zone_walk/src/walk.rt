@@ -14,16 +14,17 @@ ghost use Rattle.dcel_records.specs.declared.spot.Spot.TheVariants.{Edge as OnEd
 ghost use Rattle.dcel_records.specs.Spots.{IsMet, met_of};
 ghost use Rattle.face_location.specs.Spots.{IsSpotOf};
 ghost use Rattle.zone_walk.specs.FoundPoints.{entries_in};
-ghost use Rattle.zone_walk.specs.Searches.{IsBehind, IsPartTaken};
+ghost use Rattle.zone_walk.specs.Searches.{IsBehind, IsPartTaken, IsSearchFrom, IsVisitFrom, HasLooked};
 ghost use Rattle.zone_walk.specs.Walk.{IsPartAhead, IsSpotStretch, IsSearchAt, IsVisitAt, IsNextOf, stop_looks, has_visited};
 ghost use Rattle.zone_walk.specs.Zone.{is_on_segment, meeting_points, vertices_needed, edges_needed, edges_met, degree_at, dart_of_spot, CoversVisits, IsSpotBetween, IsNextMeeting, IsZoneOf};
 
 use crate::found::FoundPoints;
 use crate::plan::{Meeting, ZonePlan};
 use crate::records_sight::whole;
-use crate::search::{Search, Visit};
+use crate::search::{Search, Visit, gather};
 use crate::sight::Sight;
-use counted_looks::{Glimpse, NameCalls, look_at_boundary};
+use crate::source::{MeetingSource, NoSource};
+use counted_looks::{Glimpse, NameCalls, look_at_boundary, look_at_isolated};
 use dcel_records::{Room, Spot};
 use exact_plane::{BoundingBox, Direction, Point, Segment, Sign, Span, side};
 use no_memory::NoMemory;
@@ -138,16 +139,83 @@ fn part_ahead<T: Sight, L: Ledger>(
     }
 }
 
-// Looks at a face's boundary, unless it was looked at. `entry` is the dart by whose edge the segment came into the face, if any.
-fn visit<T: Sight, L: Ledger>(
+// Whether a face has so many cycles. It tells of time alone.
+fn has_many_cycles<T: Sight>(sight: &T, face: FaceId, many: usize) -> bool
+    requires sound { IsSound (T.graph sight.now) (T.faces sight.now) }
+    requires lists { AreLists (T.graph sight.now) (T.faces sight.now) (T.lists sight.now) }
+    requires face { HasFace (T.faces sight.now) face }
+{
+    let mut at = sight.first_cycle_of(face);
+    'cycles: for _ in 0..many {
+        let Some(cycle) = at else {
+            return false;
+        };
+        at = sight.cycle_after_in_face(cycle);
+    }
+    true
+}
+
+// Finds all later meeting points on edges at once, where the face has many cycles and a source tells them, unless that was done.
+fn gather_at<T: Sight, M: MeetingSource>(
+    search: &mut Search,
+    sight: &T,
+    source: &M,
+    face: FaceId,
+) -> Result<(), NoMemory>
+    requires sound { IsSound (T.graph sight.now) (T.faces sight.now) }
+    requires lists { AreLists (T.graph sight.now) (T.faces sight.now) (T.lists sight.now) }
+    requires source { (v : _) × M.knows source.now v }
+    requires face { HasFace (T.faces sight.now) face }
+    ensures { OnOk result ((v : _) (k : _) → M.knows source.now v → IsSearchFrom v k search.old → IsSearchFrom v k search.new) }
+{
+    if search.gathered {
+        return Ok(());
+    }
+    if !has_many_cycles(sight, face, source.pays_from()) {
+        return Ok(());
+    }
+    gather(search, source)
+}
+
+// Looks at those parts of a face's boundary of which nothing is known: at all of them, or, where a source told the meeting points on
+// edges, at the isolated vertices.
+fn look_at_face<T: Sight, M: MeetingSource, L: Ledger>(
     looker: &mut Visit<'_, T>,
     sight: &T,
+    source: &M,
+    face: FaceId,
+    steps: &mut Steps<L>,
+) -> Result<(), NoMemory>
+    requires sound { IsSound (T.graph sight.now) (T.faces sight.now) }
+    requires lists { AreLists (T.graph sight.now) (T.faces sight.now) (T.lists sight.now) }
+    requires source { M.knows source.now (T.graph sight.now) }
+    requires face { HasFace (T.faces sight.now) face }
+    requires ready { (k : Visit T) × IsVisitFrom (T.graph sight.now) (T.graph looker.old.sight.now) (T.faces k.sight.now) (T.faces looker.old.sight.now) k.face looker.old.face looker.old.entry k.search looker.old.search }
+    ensures ready { OnOk result ((k : Visit T) → IsVisitFrom (T.graph sight.now) (T.graph looker.old.sight.now) (T.faces k.sight.now) (T.faces looker.old.sight.now) k.face looker.old.face looker.old.entry k.search looker.old.search → IsVisitFrom (T.graph sight.now) (T.graph looker.new.sight.now) (T.faces k.sight.now) (T.faces looker.new.sight.now) k.face looker.new.face looker.new.entry k.search looker.new.search) }
+    ensures seen { OnOk result ((t : _) → IsOnBoundary (T.graph sight.now) (T.faces sight.now) face t → HasLooked (T.graph sight.now) (T.faces looker.new.sight.now) looker.new.face looker.new.search t) }
+    ensures count { steps.new ≤ steps.old + boundary_size (T.graph sight.now) (T.faces sight.now) face }
+{
+    gather_at(&mut looker.search, sight, source, face)?;
+    if looker.search.gathered {
+        look_at_isolated(looker, sight, face, steps);
+        return Ok(());
+    }
+    look_at_boundary(looker, sight, face, steps);
+    Ok(())
+}
+
+// Looks at a face's boundary, unless it was looked at. `entry` is the dart by whose edge the segment came into the face, if any.
+fn visit<T: Sight, M: MeetingSource, L: Ledger>(
+    looker: &mut Visit<'_, T>,
+    sight: &T,
+    source: &M,
     face: FaceId,
     entry: Option<DartId>,
     steps: &mut Steps<L>,
 ) -> Result<(), NoMemory>
     requires sound { IsSound (T.graph sight.now) (T.faces sight.now) }
     requires lists { AreLists (T.graph sight.now) (T.faces sight.now) (T.lists sight.now) }
+    requires source { M.knows source.now (T.graph sight.now) }
     requires face { HasFace (T.faces sight.now) face }
     requires search { IsVisitAt (T.graph sight.now) (T.faces sight.now) (T.graph looker.old.sight.now) (T.faces looker.old.sight.now) looker.old.search.segment looker.old.search.here looker.old.search }
     requires entry { IsBehind (T.graph sight.now) looker.old.search.segment looker.old.search.here entry }
@@ -161,7 +229,7 @@ fn visit<T: Sight, L: Ledger>(
     }
     looker.face = face;
     looker.entry = entry;
-    look_at_boundary(looker, sight, face, steps);
+    look_at_face(looker, sight, source, face, steps)?;
     if looker.search.failed {
         return Err(NoMemory);
     }
@@ -217,14 +285,16 @@ fn next_inside<T: Sight>(search: &mut Search, sight: &T, face: FaceId) -> Meetin
 }
 
 // From a meeting point to the next one: the spot of the part between, and that point.
-fn onward<T: Sight, L: Ledger>(
+fn onward<T: Sight, M: MeetingSource, L: Ledger>(
     looker: &mut Visit<'_, T>,
     sight: &T,
+    source: &M,
     here: &Meeting,
     steps: &mut Steps<L>,
 ) -> Result<(Spot, Point, Spot), NoMemory>
     requires sound { IsSound (T.graph sight.now) (T.faces sight.now) }
     requires lists { AreLists (T.graph sight.now) (T.faces sight.now) (T.lists sight.now) }
+    requires source { M.knows source.now (T.graph sight.now) }
     requires search { IsVisitAt (T.graph sight.now) (T.faces sight.now) (T.graph looker.old.sight.now) (T.faces looker.old.sight.now) looker.old.search.segment looker.old.search.here looker.old.search }
     requires here { looker.old.search.here ≡ here.now.point }
     requires spot { IsSpotOf (T.graph sight.now) (T.faces sight.now) here.now.point here.now.spot }
@@ -249,7 +319,7 @@ fn onward<T: Sight, L: Ledger>(
             Ok((part, next.point, next.spot))
         }
         Spot::Face(face) => {
-            visit(looker, sight, face, entry, steps)?;
+            visit(looker, sight, source, face, entry, steps)?;
             let next = next_inside(&mut looker.search, sight, face);
             Ok((part, next.point, next.spot))
         }
@@ -301,6 +371,7 @@ fn begin(alloc: Global, segment: &Segment) -> Search
     ensures here { result.here ≡ segment.now.lower }
     ensures found { entries_in result.found ≡ [] }
     ensures visited { result.visited.keys ≡ [] }
+    ensures gathered { result.gathered ≡ false }
     ensures ends { AreEnds segment.now }
     ensures whole { IsSpan (span_of_segment segment.now) × (result.whole ≡ span_of_segment segment.now) }
     ensures bounds { result.bounds ≡ bounding_box result.whole }
@@ -316,29 +387,29 @@ fn begin(alloc: Global, segment: &Segment) -> Search
         here: lower,
         found: FoundPoints::new(alloc),
         visited: BTreeSet::new(alloc),
+        gathered: false,
         failed: false,
     }
 }
 
-/// The zone of a segment in a graph, from the spot of its lower end: the meeting points in order and the open parts between them,
-/// each with its spot, the edges that are overlapped, and the room that the steps of the insertion need (Fogel, Halperin and
-/// Wein, the zone of a curve).
-///
-/// It looks once at the boundary of each face that the segment visits, once at each dart out of a vertex that it meets, and at
-/// edges that it passes or goes along. No other look is taken, whether there is memory or not.
+/// The zone of a segment in a graph, as [`zone`] tells it, with a source of meeting points beside: where a face has many cycles, the
+/// source is asked once for all meeting points on edges, and from then on of faces only the isolated vertices are looked at. No other look is
+/// taken than [`zone`] would take.
 ///
 /// # Errors
 ///
 /// There was no memory for the plan.
-pub fn zone<T: Sight, L: Ledger>(
+pub fn zone_by<T: Sight, M: MeetingSource, L: Ledger>(
     alloc: Global,
     sight: &T,
     segment: &Segment,
     start: Spot,
+    source: &M,
     steps: &mut Steps<L>,
 ) -> Result<ZonePlan, NoMemory>
     requires sound { IsSound (T.graph sight.now) (T.faces sight.now) }
     requires lists { AreLists (T.graph sight.now) (T.faces sight.now) (T.lists sight.now) }
+    requires source { M.knows source.now (T.graph sight.now) }
     requires start { IsSpotOf (T.graph sight.now) (T.faces sight.now) segment.now.lower start }
     ensures zone { IfOk result (IsZoneOf (T.graph sight.now) (T.faces sight.now) segment.now) }
     ensures looks { (n : _) → CoversVisits (T.graph sight.now) (T.faces sight.now) segment.now (meeting_points (T.graph sight.now) segment.now) n →
@@ -368,11 +439,38 @@ pub fn zone<T: Sight, L: Ledger>(
     plan.vertices.push(Meeting { point, spot })?;
     'walk: while point < upper {
         let here = Meeting { point, spot };
-        let (part, next_point, next_spot) = onward(&mut looker, sight, &here, steps)?;
+        let (part, next_point, next_spot) = onward(&mut looker, sight, source, &here, steps)?;
         point = next_point;
         spot = next_spot;
         extend(&mut plan, part, Meeting { point, spot })?;
     }
     plan.room = room_for(&plan);
     Ok(plan)
+}
+
+/// The zone of a segment in a graph, from the spot of its lower end: the meeting points in order and the open parts between them,
+/// each with its spot, the edges that are overlapped, and the room that the steps of the insertion need (Fogel, Halperin and
+/// Wein, the zone of a curve).
+///
+/// It looks once at the boundary of each face that the segment visits, once at each dart out of a vertex that it meets, and at
+/// edges that it passes or goes along. No other look is taken, whether there is memory or not.
+///
+/// # Errors
+///
+/// There was no memory for the plan.
+pub fn zone<T: Sight, L: Ledger>(
+    alloc: Global,
+    sight: &T,
+    segment: &Segment,
+    start: Spot,
+    steps: &mut Steps<L>,
+) -> Result<ZonePlan, NoMemory>
+    requires sound { IsSound (T.graph sight.now) (T.faces sight.now) }
+    requires lists { AreLists (T.graph sight.now) (T.faces sight.now) (T.lists sight.now) }
+    requires start { IsSpotOf (T.graph sight.now) (T.faces sight.now) segment.now.lower start }
+    ensures zone { IfOk result (IsZoneOf (T.graph sight.now) (T.faces sight.now) segment.now) }
+    ensures looks { (n : _) → CoversVisits (T.graph sight.now) (T.faces sight.now) segment.now (meeting_points (T.graph sight.now) segment.now) n →
+        steps.new ≤ steps.old + (n + (sum_by (degree_at (T.graph sight.now)) (meeting_points (T.graph sight.now) segment.now) + 2 * edges_met (T.graph sight.now) segment.now)) }
+{
+    zone_by(alloc, sight, segment, start, &NoSource, steps)
 }

@@ -7,5 +7,6 @@ zone_counted-requires c = record {
   parts = refl;
   some = omega arith;
   map = c.requires.map;
+  layer = c.requires.layer;
   start = let at : c.lower.result ≡ c.args.segment.now.lower = c.lower.ensures.value in rw (← at) c.spot_at-start.ensures;
 }

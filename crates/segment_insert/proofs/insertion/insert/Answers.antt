@@ -6,7 +6,7 @@ use Rattle.segment_insert.specs.Insertion.{insert_said, refusal_at, HasRoomForPl
 use Rattle.segment_insert.specs.declared.insertion.InsertError.TheVariants.{NoMemory}
 use Rattle.dcel_records.proofs.Maps.{one_map}
 use Rattle.told_steps.proofs.Begun.{begun_in_step, still_watched}
-use Rattle.segment_insert.proofs.Layers.{by_same_sides}
+use Rattle.segment_insert.proofs.Layers.{by_same_sides, past_of_layer}
 use Rattle.told_steps.proofs.Moved.{layer_stays}
 use Rattle.segment_insert.proofs.insertion.insert.Goals as goal
 use Rattle.told_steps.specs.LayerEdits.{layer_at}
@@ -61,3 +61,6 @@ prepare-requires-clause-start g c = c.requires.start
 
 pub returns-in-Some-clause-looks : goal.returns-in-Some-clause-looks
 returns-in-Some-clause-looks g c = λ n k. omega arith
+
+pub prepare-requires-clause-past : goal.prepare-requires-clause-past
+prepare-requires-clause-past g c = past_of_layer c.args.records.now.graph c.args.history.now c.requires.layer

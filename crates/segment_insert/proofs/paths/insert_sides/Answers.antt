@@ -7,7 +7,7 @@ use Rattle.segment_insert.specs.Paths.{HasRoomForPath}
 use Rattle.segment_insert.specs.declared.insertion.InsertError.TheVariants.{NoMemory}
 use Rattle.dcel_records.proofs.Maps.{one_map}
 use Rattle.told_steps.proofs.Begun.{begun_in_step, still_watched}
-use Rattle.segment_insert.proofs.Layers.{by_same_sides}
+use Rattle.segment_insert.proofs.Layers.{by_same_sides, past_of_layer}
 use Rattle.told_steps.proofs.Moved.{layer_stays}
 use Rattle.segment_insert.proofs.paths.insert_sides.Goals as goal
 use Rattle.told_steps.specs.LayerEdits.{layer_at}
@@ -62,3 +62,6 @@ prepare_path-requires-clause-starts g c = c.requires.starts
 
 pub returns-in-Some-clause-looks : goal.returns-in-Some-clause-looks
 returns-in-Some-clause-looks g c = λ n k. omega arith
+
+pub prepare_path-requires-clause-past : goal.prepare_path-requires-clause-past
+prepare_path-requires-clause-past g c = past_of_layer c.args.records.now.graph c.args.history.now c.requires.layer

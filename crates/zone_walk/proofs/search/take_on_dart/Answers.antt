@@ -79,6 +79,7 @@ returns-in-Some-clause-ready g c = λ k h.
     let last : Option Point = c.in-Some.common.last in
     goes_on v (λ p. (Some first ≡ Some p) ⊎ (last ≡ Some p)) k c.args.search.now c.take_on-in-Some.new.search h
     (one_on c.args.search.now c.take_on.new.search c.take_on-in-Some.new.search c.take_on.ensures.same c.take_on-in-Some.ensures.same)
+    (c.take_on-in-Some.ensures.gathered ∙ c.take_on.ensures.gathered)
     (kept_on (entries_in c.args.search.now.found) (entries_in c.take_on.new.search.found) (entries_in c.take_on-in-Some.new.search.found) c.take_on.ensures.kept c.take_on-in-Some.ensures.kept)
     (λ p e. (is_point v k c.args.search.now h c.args.dart c.requires.dart c.in-Some.common (c.in-Some.ensures v c.args.dart (sound_look v k c.args.search.now h c.args.dart c.requires.dart c.args.looked.now c.requires.looked)) p e).0)
     (both_takes v (λ p. Some first ≡ Some p) (λ p. last ≡ Some p) (λ p. (Some first ≡ Some p) ⊎ (last ≡ Some p)) c.args.search.now c.take_on.new.search c.take_on-in-Some.new.search c.take_on.ensures.same c.take_on.ensures.only c.take_on-in-Some.ensures.only

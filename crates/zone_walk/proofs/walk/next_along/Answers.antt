@@ -32,7 +32,7 @@ returns g c =
       stretch = w.0;
       spot = w.1;
       search =
-          moved v f s l (record { alloc = l.alloc; segment = l.segment; whole = l.whole; bounds = l.bounds; here = q; found = c.remove.new.self; visited = l.visited; failed = l.failed }) p q c.requires.search w.0.stretch.next refl refl refl refl refl
+          moved v f s l (record { alloc = l.alloc; segment = l.segment; whole = l.whole; bounds = l.bounds; here = q; found = c.remove.new.self; visited = l.visited; gathered = l.gathered; failed = l.failed }) p q c.requires.search w.0.stretch.next refl refl refl refl refl refl
           c.remove.ensures.only
           c.remove.ensures.kept;
     }

@@ -34,7 +34,7 @@ returns g c =
     let tells = c.requires.part.1 in
     let found : AreFoundAfter v s p old = c.requires.search.search.found in
     let taken = c.requires.search.visited c.args.face c.requires.visited in
-    let now : Meeting → Search = λ m. record { alloc = l.alloc; segment = s; whole = l.whole; bounds = l.bounds; here = m.point; found = c.pop_first.new.self; visited = l.visited; failed = l.failed } in
+    let now : Meeting → Search = λ m. record { alloc = l.alloc; segment = s; whole = l.whole; bounds = l.bounds; here = m.point; found = c.pop_first.new.self; visited = l.visited; gathered = l.gathered; failed = l.failed } in
     elim c.match-pop_first.branch [
       | in-Some w ↦
           let m = w.in-Some.first in
@@ -45,7 +45,7 @@ returns g c =
             stretch = face_stretch v f S s k p proper on before c.args.face none tells m.point n;
             spot = spot_there v f s p m.point m.spot (found m.point m.spot h.there);
             search =
-                moved v f s l (now m) p m.point c.requires.search n refl refl refl refl refl
+                moved v f s l (now m) p m.point c.requires.search n refl refl refl refl refl refl
                 (λ r z i. (h.only r z i, λ e. lt_never (subst (Lt m.point) e (lt_out m.point r (h.before r (key_of_entry (entries_in c.pop_first.new.self) r z i))))))
                 h.kept;
           })
@@ -58,7 +58,7 @@ returns g c =
             stretch = face_stretch v f S s k p proper on before c.args.face none tells s.upper u.0;
             spot = u.1;
             search =
-                moved v f s l (now (record { point = s.upper; spot = Face c.args.face })) p s.upper c.requires.search u.0 refl refl refl refl refl
+                moved v f s l (now (record { point = s.upper; spot = Face c.args.face })) p s.upper c.requires.search u.0 refl refl refl refl refl refl
                 (λ r z i. absurd (subst (λ (es : List (Point × Spot)). Member (r, z) es) left i))
                 (λ r i d. absurd (subst (λ (es : List (Point × Spot)). Member r (keys_of es)) empty i));
           })

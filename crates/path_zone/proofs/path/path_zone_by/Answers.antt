@@ -1,6 +1,6 @@
 use Rattle.dcel_records.specs.RecordsView.{tables_of}
 use Rattle.path_zone.proofs.Planned.{planned}
-use Rattle.path_zone.proofs.path.path_zone.Goals as goal
+use Rattle.path_zone.proofs.path.path_zone_by.Goals as goal
 
 pub returns-clause-zone : goal.returns-clause-zone
 returns-clause-zone g c =

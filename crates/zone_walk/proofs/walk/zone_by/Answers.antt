@@ -19,7 +19,7 @@ use Rattle.zone_walk.proofs.Nexts.{next_one}
 use Rattle.zone_walk.proofs.Stretches.{told, meets_lies, meets_proper, one_next}
 use Rattle.zone_walk.proofs.Walked.{starts, continues, zone_done, fewer_later}
 use Rattle.zone_walk.proofs.Zoned.{began, at_itself}
-use Rattle.zone_walk.proofs.walk.zone.Goals as goal
+use Rattle.zone_walk.proofs.walk.zone_by.Goals as goal
 
 in_bound : (v : View) → IsGraphSound v → (s : Segment) → IsCourse s → (start now n : ℕ) → now ≤ start + (n + sum_by (stop_looks v s) (meeting_points v s)) → now ≤ start + (n + (sum_by (degree_at v) (meeting_points v s) + 2 * edges_met v s))
 in_bound v S s k start now n h = let a = looks_fit v S s k in omega arith
@@ -38,7 +38,7 @@ walk-init g c =
     starts v f S s k c.args.start c.requires.start s.lower s.lower refl refl (record { point = s.lower; spot = c.args.start } ∷ []) [] [] refl refl refl in
     record {
       walked = walked;
-      at = record { graph = refl; faces = refl; search = began v f S s c.begin.result c.lower-point.result c.lower-point.ensures.value c.begin.ensures.segment c.begin.ensures.here c.begin.ensures.found c.begin.ensures.visited c.begin.ensures.ends c.begin.ensures.whole c.begin.ensures.bounds };
+      at = record { graph = refl; faces = refl; search = began v f S s c.begin.result c.lower-point.result c.lower-point.ensures.value c.begin.ensures.segment c.begin.ensures.here c.begin.ensures.found c.begin.ensures.visited c.begin.ensures.gathered c.begin.ensures.ends c.begin.ensures.whole c.begin.ensures.bounds };
       counted = begins v f s c.args.steps.now c.lower-point.result (subst (λ (p : Point). p ∷ later_points v s p ≡ meeting_points v s) (sym c.lower-point.ensures.value) alone.points);
     }
 

@@ -3,7 +3,7 @@ use Rattle.zone_walk.specs.Walk.{IsVisitAt}
 use Rattle.zone_walk.specs.Zone.{later_points}
 use Rattle.zone_walk.proofs.Counted.{IsCounted}
 use Rattle.zone_walk.proofs.Walked.{IsWalked}
-use Rattle.zone_walk.proofs.walk.zone.Given as goal
+use Rattle.zone_walk.proofs.walk.zone_by.Given as goal
 
 abbrev pub invariant-walk : goal.invariant-walk
 invariant-walk g l =
